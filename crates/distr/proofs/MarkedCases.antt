@@ -1,0 +1,16 @@
+-- Document 01's twelve marked cases, as one claim about the rules: what they give is what the document states.
+use mathlib.Core.Path.{_≡_, refl}
+use mathlib.Core.List.{map}
+use Rattle.distr.specs.Words.{mapRead, bindRead, many, word, wide, choose, chooseEach}
+use Rattle.distr.specs.Packed.{digits, split}
+use Rattle.distr.specs.UniformTernary.{accepted, bytes}
+use Rattle.distr.specs.Insertion.{countUp, inserted, insertEach}
+use Rattle.distr.specs.Blocks.{blocksOf}
+use Rattle.distr.specs.CenteredBinomial.{total}
+use Rattle.distr.specs.Gaussian.{magnitude}
+use Rattle.distr.specs.Encoding.{rows}
+use Rattle.distr.specs.Marked.{Case, marked}
+
+pub marked-cases : map (λ (c : Case). c .given) marked ≡ map (λ (c : Case). c .stated) marked
+unfolding marked mapRead bindRead many word wide choose chooseEach digits split accepted bytes countUp inserted insertEach blocksOf total magnitude rows
+marked-cases = refl

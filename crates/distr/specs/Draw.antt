@@ -1,0 +1,61 @@
+-- The whole answer of a draw: its number, the place after it and every element of the output.
+use Prim.Native.Nat.{ℕ, _-_}
+use mathlib.Core.Bool.{Bool, cond, _&&_}
+use mathlib.Core.List.{List, [], _∷_, _++_, map}
+use lib.Dec.{eqb}
+use lib.ListN.{length, drop, replicate}
+use lib.IntN.{ℤ, pos}
+use Rattle.distr.specs.declared.answer.Answer.{Answer}
+use Rattle.distr.specs.Words.{Read, got, short}
+use Rattle.distr.specs.Rule.{Rule, readBy}
+use Rattle.distr.specs.Distribution.{Distr, Tables, coefficients}
+use Rattle.distr.specs.Encoding.{encode, rows}
+use Rattle.distr.specs.Numbers.{firstOf, pastEnd, tooLong, stateNumbers, signedNumbers, encodedNumbers, crtNumbers, servesCrt}
+
+pub record Outcome (A : Type 0) : Type 0 where
+  pub number : ℕ
+  pub place : ℕ
+  pub output : List A
+
+-- A function's answer with what its output holds then.
+abbrev pub outcome : {A : Type 0} → Answer → List A → Outcome A
+outcome answer output = record { number = answer .number; place = answer .place; output = output }
+
+-- "Success is number 0 and the new place"; "23 keeps the place and writes zeros over the output".
+-- `count` words in all, the draw begun at `place`, n coefficients wanted, `write` what the output holds for coefficients.
+unfoldable pub settled : {A : Type 0} → (List ℤ → List A) → ℕ → ℕ → ℕ → Read (List ℤ) → Outcome A
+settled write count place n (got cs rest) = record { number = 0; place = count - length rest; output = write cs }
+settled write count place n short = record { number = 23; place = place; output = write (replicate n (pos 0)) }
+
+-- "All but 23 change neither place nor output."
+unfoldable pub judged : {A : Type 0} → ℕ → ℕ → List A → Outcome A → Outcome A
+judged number place out drawn = cond (eqb number 0) drawn (record { number = number; place = place; output = out })
+
+-- A draw: the first number that refuses it, or what the rules give from the place on, n coefficients wanted.
+abbrev pub drawn : {A : Type 0} → (List ℤ → List A) → List ℕ → List ℕ → ℕ → List A → ℕ → (List ℕ → Read (List ℤ)) → Outcome A
+drawn write numbers words place out n rules =
+    judged (firstOf numbers) place out (settled write (length words) place n (rules (drop place words)))
+
+-- A draw by one rule into the whole output, for a caller that has no sampler: 22, 6, and a number of the rule's own.
+unfoldable pub ruleDraw : {A : Type 0} → (List ℤ → List A) → ℕ → Rule → List ℕ → ℕ → List A → Outcome A
+ruleDraw write number rule words place out =
+    drawn write (pastEnd (length words) place ∷ tooLong (length out) ∷ number ∷ []) words place out (length out) (readBy rule)
+
+-- A signed draw. `made` says whether making gives the sampler, d is its distribution.
+unfoldable pub signedDraw : Bool → Distr → Tables → List ℕ → ℕ → List ℤ → Outcome ℤ
+signedDraw made d tables words place out =
+    drawn (λ cs. cs) (stateNumbers made (length words) place ++ signedNumbers d tables (length out)) words place out
+    (length out) (coefficients d (length out) tables)
+
+-- A draw of residues of one modulus.
+unfoldable pub encodedDraw : Bool → Distr → Tables → ℕ → List ℕ → ℕ → List ℕ → Outcome ℕ
+encodedDraw made d tables modulus words place out =
+    drawn (map (encode modulus)) (stateNumbers made (length words) place ++ encodedNumbers d tables (length out) modulus) words place out
+    (length out) (coefficients d (length out) tables)
+
+-- A CRT draw of `count` coefficients; "an empty output now succeeds and reads nothing".
+unfoldable pub crtDraw : Bool → Distr → Tables → ℕ → List ℕ → List ℕ → ℕ → List ℕ → Outcome ℕ
+crtDraw made d tables count moduli words place out =
+    let numbers = stateNumbers (made && servesCrt d) (length words) place ++ crtNumbers d tables (length out) count moduli in
+    cond (eqb (length out) 0) (judged (firstOf numbers) place out (record { number = 0; place = place; output = out }))
+    (drawn (rows moduli) numbers words place out count (coefficients d count tables))

@@ -1,0 +1,31 @@
+-- Residues: one modulus, several (CRT), and the row of one of them.
+use Prim.Native.Nat.{ℕ, suc, _*_, _-_}
+use mathlib.Core.Bool.{cond, _&&_}
+use mathlib.Core.List.{List, [], _∷_, _++_, map}
+use lib.Dec.{ltb, eqb}
+use lib.ListN.{length, take, drop}
+use lib.IntN.{ℤ, pos, negsuc, _-ℤ_}
+
+-- "−m becomes modulus − m, zero stays 0."
+abbrev pub encode : ℕ → ℤ → ℕ
+encode modulus (pos m) = m
+encode modulus (negsuc m) = modulus - suc m
+
+-- The same by the caller's encoding of −1, as `minus_one` and `modulus_minus_one` have it in the Rust: residues, and signed numbers.
+abbrev pub encodeWith : ℕ → ℤ → ℕ
+encodeWith minus (pos m) = m
+encodeWith minus (negsuc m) = minus - m
+
+abbrev pub signedWith : ℤ → ℤ → ℤ
+signedWith minus (pos m) = pos m
+signedWith minus (negsuc m) = minus -ℤ pos m
+
+-- "CRT row i, column c is at i × coefficients + c": a row of residues for each modulus.
+unfoldable pub rows : List ℕ → List ℤ → List ℕ
+rows [] cs = []
+rows (modulus ∷ moduli) cs = map (encode modulus) cs ++ rows moduli cs
+
+-- "The row of one modulus; a row number out of range, or a wrong shape, gives the empty part."
+abbrev pub row : List ℕ → ℕ → ℕ → ℕ → List ℕ
+row output count moduli i =
+    cond (eqb (length output) (count * moduli) && ltb i moduli) (take count (drop (i * count) output)) []

@@ -1,0 +1,89 @@
+-- "Inside a distribution are lists of n coefficients": the distribution's own condition on a whole list.
+use Prim.Native.Nat.{ℕ, zero, suc, _+_, _-_, _/_, _^_}
+use mathlib.Core.Bool.{Bool, true, false, cond, _&&_}
+use mathlib.Core.List.{List, [], _∷_}
+use lib.Dec.{leb, eqb}
+use lib.ListN.{length, take, drop}
+use lib.IntN.{ℤ, pos, negsuc, natAbs}
+use Rattle.distr.specs.declared.secret_key_distr.SecretKeyDistr.{SecretKeyDistr}
+use Rattle.distr.specs.declared.secret_key_distr.SecretKeyDistr.the-variants.{UniformBinary, Binary, SparseTernary, UniformTernary, Ternary, FixedHammingWeightBinary, BlockBinary, FixedHammingWeightTernary, FixedCompositionTernary, Gaussian}
+use Rattle.distr.specs.declared.secret_key_distr.BlockOccupancy.{BlockOccupancy}
+use Rattle.distr.specs.declared.secret_key_distr.BlockOccupancy.the-variants.{AtMostOne, ExactlyOne}
+use Rattle.distr.specs.declared.error_distribution.ErrorDistribution.{ErrorDistribution}
+use Rattle.distr.specs.declared.error_distribution.ErrorDistribution.the-variants.{CenteredBinomial, Gaussian as ErrorGaussian}
+use Rattle.distr.specs.Packed.{minusOne}
+use Rattle.distr.specs.Thresholds.{threshold, nonzeroEnd}
+use Rattle.distr.specs.Gaussian.{support}
+use Rattle.distr.specs.Distribution.{Distr, secret, error}
+
+-- Two integers are equal.
+abbrev pub same : ℤ → ℤ → Bool
+same (pos a) (pos b) = eqb a b
+same (pos a) (negsuc b) = false
+same (negsuc a) (pos b) = false
+same (negsuc a) (negsuc b) = eqb a b
+
+-- How often a value stands in a list.
+unfoldable pub tally : ℤ → List ℤ → ℕ
+tally v [] = 0
+tally v (c ∷ cs) = cond (same v c) 1 0 + tally v cs
+
+-- Each coefficient passes.
+unfoldable pub every : (ℤ → Bool) → List ℤ → Bool
+every ok [] = true
+every ok (c ∷ cs) = ok c && every ok cs
+
+-- 0 or 1.
+abbrev pub isBit : ℤ → Bool
+isBit (pos a) = leb a 1
+isBit (negsuc a) = false
+
+-- −m..m.
+abbrev pub within : ℕ → ℤ → Bool
+within m c = leb (natAbs c) m
+
+-- n coefficients, each of which passes.
+abbrev pub listOf : ℕ → (ℤ → Bool) → List ℤ → Bool
+listOf n ok cs = eqb (length cs) n && every ok cs
+
+-- As many blocks of a size, one after the other, each of which passes.
+unfoldable pub everyBlock : ℕ → (List ℤ → Bool) → ℕ → List ℤ → Bool
+everyBlock size ok zero cs = true
+everyBlock size ok (suc k) cs = ok (take size cs) && everyBlock size ok k (drop size cs)
+
+-- "With exactly one 1, or at most one, in each block."
+abbrev pub blockOk : BlockOccupancy → List ℤ → Bool
+blockOk AtMostOne cs = leb (tally (pos 1) cs) 1
+blockOk ExactlyOne cs = eqb (tally (pos 1) cs) 1
+
+-- "The constant alone where `Binary` gives it without reading."
+abbrev pub insideBinary : ℕ → ℕ → List ℤ → Bool
+insideBinary t n cs = listOf n (cond (eqb t (2 ^ 64)) (same (pos 1)) isBit) cs
+
+-- "The constant alone where `Ternary` gives it without reading."
+abbrev pub insideTernary : ℕ → ℕ → ℕ → List ℤ → Bool
+insideTernary N P n cs =
+    listOf n
+    (cond (eqb N (2 ^ 64)) (same minusOne)
+    (cond (eqb (nonzeroEnd N P) 0) (same (pos 0))
+    (cond (eqb P (2 ^ 64)) (same (pos 1)) (within 1))))
+    cs
+
+-- "With the fixed weights exactly (a ternary weight is h that are not 0)."
+unfoldable pub insideSecret : SecretKeyDistr → ℕ → List ℤ → Bool
+insideSecret UniformBinary n cs = listOf n isBit cs
+insideSecret (Binary p) n cs = insideBinary (threshold p) n cs
+insideSecret SparseTernary n cs = listOf n (within 1) cs
+insideSecret UniformTernary n cs = listOf n (within 1) cs
+insideSecret (Ternary minus plus) n cs = insideTernary (threshold minus) (threshold plus) n cs
+insideSecret (FixedHammingWeightBinary h) n cs = listOf n isBit cs && eqb (tally (pos 1) cs) h
+insideSecret (BlockBinary size occupancy) n cs = listOf n isBit cs && everyBlock size (blockOk occupancy) (n / size) cs
+insideSecret (FixedHammingWeightTernary h) n cs = listOf n (within 1) cs && eqb (tally (pos 0) cs + h) n
+insideSecret (FixedCompositionTernary minus ones) n cs =
+    listOf n (within 1) cs && eqb (tally minusOne cs) minus && eqb (tally (pos 1) cs) ones
+insideSecret (Gaussian deviation) n cs = listOf n (within (support deviation)) cs
+
+unfoldable pub inside : Distr → ℕ → List ℤ → Bool
+inside (secret d) n cs = insideSecret d n cs
+inside (error (ErrorGaussian deviation)) n cs = listOf n (within (support deviation)) cs
+inside (error (CenteredBinomial eta)) n cs = listOf n (within eta) cs

@@ -1,0 +1,60 @@
+-- "Marked cases (prove 1 to 12)", as one table: what the rules give, and what document 01 states.
+use Prim.Native.Nat.{ℕ, _-_, _^_}
+use mathlib.Core.List.{List, [], _∷_, map}
+use lib.IntN.{ℤ, pos, negsuc}
+use Rattle.distr.specs.declared.secret_key_distr.BlockOccupancy.the-variants.{ExactlyOne}
+use Rattle.distr.specs.Words.{Read, got, mapRead, choose}
+use Rattle.distr.specs.Rule.{readBy}
+use Rattle.distr.specs.Packed.{uniformBinary, minusOne}
+use Rattle.distr.specs.UniformTernary.{uniformTernary}
+use Rattle.distr.specs.Insertion.{fixedComposition, fixedBinaryWeight}
+use Rattle.distr.specs.Blocks.{blockBinary}
+use Rattle.distr.specs.CenteredBinomial.{centeredBinomial}
+use Rattle.distr.specs.Gaussian.{cumulativeValue}
+use Rattle.distr.specs.Encoding.{rows}
+
+pub record Case : Type 0 where
+  pub given : Read (List ℤ)
+  pub stated : Read (List ℤ)
+
+-- A single value, and a list of natural numbers, as coefficients.
+abbrev pub one : ℕ → List ℤ
+one v = pos v ∷ []
+
+abbrev pub naturals : List ℕ → List ℤ
+naturals xs = map pos xs
+
+abbrev pub minusTwo : ℤ
+minusTwo = negsuc 1
+
+-- Case 10's bounds: 0, 4, 8, 2^64−1.
+abbrev pub bounds : List ℕ
+bounds = 0 ∷ 4 ∷ 8 ∷ (2 ^ 64 - 1) ∷ []
+
+unfoldable pub marked : List Case
+marked =
+    -- 1 binary n=3, word 5: 1 0 1
+    record { given = readBy (uniformBinary 3) (5 ∷ []); stated = got (pos 1 ∷ pos 0 ∷ pos 1 ∷ []) [] }
+    -- 2 ternary n=5, word 5: 1 0 −1 −1 −1
+    ∷ record { given = readBy (uniformTernary 5) (5 ∷ []); stated = got (pos 1 ∷ pos 0 ∷ minusOne ∷ minusOne ∷ minusOne ∷ []) [] }
+    -- 3 word 0xF3: five −1, one word
+    ∷ record { given = readBy (uniformTernary 5) (0xF3 ∷ []); stated = got (minusOne ∷ minusOne ∷ minusOne ∷ minusOne ∷ minusOne ∷ []) [] }
+    -- 4 choice of 3: 4294967294 gives 2
+    ∷ record { given = mapRead one (choose 3 (4294967294 ∷ [])); stated = got (pos 2 ∷ []) [] }
+    -- 5 4294967295 is skipped
+    ∷ record { given = mapRead one (choose 3 (4294967295 ∷ 4 ∷ [])); stated = got (pos 1 ∷ []) [] }
+    -- 6 eta 2, word 7: 1; 12: −2
+    ∷ record { given = readBy (centeredBinomial 2 2) (7 ∷ 0 ∷ 12 ∷ 0 ∷ []); stated = got (pos 1 ∷ minusTwo ∷ []) [] }
+    -- 7 eta 32, 2^32−1: 32
+    ∷ record { given = readBy (centeredBinomial 32 1) ((2 ^ 32 - 1) ∷ 0 ∷ []); stated = got (pos 32 ∷ []) [] }
+    -- 8 composition n=4, 1 and 1, words 0, 0: 1 0 0 −1
+    ∷ record { given = readBy (fixedComposition 1 1 4) (0 ∷ 0 ∷ []); stated = got (pos 1 ∷ pos 0 ∷ pos 0 ∷ minusOne ∷ []) [] }
+    -- 9 binary n=4, h=1, word 5: 0 1 0 0
+    ∷ record { given = readBy (fixedBinaryWeight 1 4) (5 ∷ []); stated = got (pos 0 ∷ pos 1 ∷ pos 0 ∷ pos 0 ∷ []) [] }
+    -- 10 the cumulative rule alone: words 3, 4, 5, 2^64−1 give 0, −1, 1, 2
+    ∷ record { given = got (map (cumulativeValue 2 bounds) (3 ∷ 4 ∷ 5 ∷ (2 ^ 64 - 1) ∷ [])) []; stated = got (pos 0 ∷ minusOne ∷ pos 1 ∷ pos 2 ∷ []) [] }
+    -- 11 −2 over 5, 7: 3, 5
+    ∷ record { given = got (naturals (rows (5 ∷ 7 ∷ []) (minusTwo ∷ []))) []; stated = got (pos 3 ∷ pos 5 ∷ []) [] }
+    -- 12 blocks of 2, exactly one, words 1, 0: 0 1 1 0
+    ∷ record { given = readBy (blockBinary 2 ExactlyOne 4) (1 ∷ 0 ∷ []); stated = got (pos 0 ∷ pos 1 ∷ pos 1 ∷ pos 0 ∷ []) [] }
+    ∷ []

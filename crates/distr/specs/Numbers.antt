@@ -1,0 +1,91 @@
+-- "What a call hands back": the numbers of a draw, in their order.
+use Prim.Native.Nat.{ℕ, zero, suc, _+_, _*_, _-_, _%_, _^_}
+use mathlib.Core.Bool.{Bool, true, false, not, cond, _&&_, _||_}
+use mathlib.Core.List.{List, [], _∷_, _++_}
+use lib.Dec.{leb, ltb, eqb}
+use lib.ListN.{length}
+use Rattle.distr.specs.declared.secret_key_distr.SecretKeyDistr.{SecretKeyDistr}
+use Rattle.distr.specs.declared.secret_key_distr.SecretKeyDistr.the-variants.{UniformBinary, Binary, SparseTernary, UniformTernary, Ternary, FixedHammingWeightBinary, BlockBinary, FixedHammingWeightTernary, FixedCompositionTernary, Gaussian}
+use Rattle.distr.specs.declared.error_distribution.ErrorDistribution.{ErrorDistribution}
+use Rattle.distr.specs.declared.error_distribution.ErrorDistribution.the-variants.{CenteredBinomial, Gaussian as ErrorGaussian}
+use Rattle.distr.specs.Gaussian.{support, cumulativeLimit, cumulativeTable}
+use Rattle.distr.specs.Layered.{layerTables}
+use Rattle.distr.specs.Distribution.{Distr, secret, error, Tables, onDeviation}
+use Rattle.distr.specs.Making.{refuse, largest}
+
+-- The first number of a list of tests that is not 0.
+unfoldable pub firstOf : List ℕ → ℕ
+firstOf [] = 0
+firstOf (zero ∷ ns) = firstOf ns
+firstOf (suc k ∷ ns) = suc k
+
+-- "6 output longer than 65,536."
+abbrev pub tooLong : ℕ → ℕ
+tooLong n = refuse (ltb 65536 n) 6
+
+-- "7 weights over the length, or their sum over 2^64−1."
+abbrev pub badWeight : ℕ → ℕ → ℕ
+badWeight weight n = refuse (ltb n weight || ltb (2 ^ 64 - 1) weight) 7
+
+-- "7 or 8"; "8 block length 0 or no multiple of the block size".
+unfoldable pub lengthNumber : Distr → ℕ → ℕ
+lengthNumber (secret UniformBinary) n = 0
+lengthNumber (secret (Binary p)) n = 0
+lengthNumber (secret SparseTernary) n = 0
+lengthNumber (secret UniformTernary) n = 0
+lengthNumber (secret (Ternary minus plus)) n = 0
+lengthNumber (secret (FixedHammingWeightBinary h)) n = badWeight h n
+lengthNumber (secret (BlockBinary size occupancy)) n = refuse (eqb n 0 || not (eqb (n % size) 0)) 8
+lengthNumber (secret (FixedHammingWeightTernary h)) n = badWeight h n
+lengthNumber (secret (FixedCompositionTernary minus ones)) n = badWeight (minus + ones) n
+lengthNumber (secret (Gaussian deviation)) n = 0
+lengthNumber (error d) n = 0
+
+-- "9 largest magnitude above modulus − 1"; "modulus 0 gives 9".
+abbrev pub modulusNumber : Distr → ℕ → ℕ
+modulusNumber d modulus = refuse (leb modulus (largest d)) 9
+
+-- "12 cumulative table malformed"; "13 layer tables malformed". Tables that a distribution does not use are not judged.
+unfoldable pub tableNumber : Distr → Tables → ℕ
+tableNumber d tables = onDeviation d judged 0
+  where
+    judged : lib.Ieee.Float → ℕ
+    judged deviation =
+        let M = support deviation in
+        cond (leb M cumulativeLimit) (refuse (not (cumulativeTable M (tables .bounds))) 12)
+        (refuse (not (layerTables M (tables .layers))) 13)
+
+-- "22 place past the end of the words."
+abbrev pub pastEnd : ℕ → ℕ → ℕ
+pastEnd count place = refuse (ltb count place) 22
+
+-- "21 a sampler that making never gives", before 22.
+abbrev pub stateNumbers : Bool → ℕ → ℕ → List ℕ
+stateNumbers made count place = refuse (not made) 21 ∷ pastEnd count place ∷ []
+
+-- What else can refuse a signed draw, whatever the words: 6, then 7 or 8, then 12 or 13.
+abbrev pub signedNumbers : Distr → Tables → ℕ → List ℕ
+signedNumbers d tables n = tooLong n ∷ lengthNumber d n ∷ tableNumber d tables ∷ []
+
+-- "Draw order: 21, 22, 6, 7 or 8, 9, 12 or 13" (then 23).
+abbrev pub encodedNumbers : Distr → Tables → ℕ → ℕ → List ℕ
+encodedNumbers d tables n modulus = tooLong n ∷ lengthNumber d n ∷ modulusNumber d modulus ∷ tableNumber d tables ∷ []
+
+-- "CRT draws serve the Gaussian and the centered binomial, another sampler gives 21."
+unfoldable pub servesCrt : Distr → Bool
+servesCrt (secret d) = onDeviation (secret d) (λ deviation. true) false
+servesCrt (error d) = true
+
+-- "11 CRT output length not coefficients × moduli, or that product over 2^64−1."
+abbrev pub shapeNumber : ℕ → ℕ → ℕ → ℕ
+shapeNumber n count moduli = refuse (not (eqb n (count * moduli)) || ltb (2 ^ 64 - 1) (count * moduli)) 11
+
+-- "Then modulus by modulus 10 before 9"; "10 a CRT modulus of 0".
+unfoldable pub moduliNumbers : Distr → List ℕ → List ℕ
+moduliNumbers d [] = []
+moduliNumbers d (modulus ∷ moduli) = refuse (eqb modulus 0) 10 ∷ modulusNumber d modulus ∷ moduliNumbers d moduli
+
+-- "CRT order: 21, 22, 11, 6, then modulus by modulus 10 before 9, then 12 or 13" (then the empty output, then 23).
+abbrev pub crtNumbers : Distr → Tables → ℕ → ℕ → List ℕ → List ℕ
+crtNumbers d tables n count moduli =
+    shapeNumber n count (length moduli) ∷ tooLong n ∷ (moduliNumbers d moduli ++ (tableNumber d tables ∷ []))

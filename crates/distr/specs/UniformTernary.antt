@@ -1,0 +1,36 @@
+-- "Uniform ternary: bytes, lowest first, 243..255 skipped; five base-3 digits, lowest first, 0, 1, 2 giving −1, 0, 1."
+use Prim.Native.Nat.{ℕ, zero, suc, _+_, _-_, _/_}
+use mathlib.Core.Bool.{cond}
+use mathlib.Core.List.{List, [], _∷_, _++_, map}
+use lib.Dec.{ltb, eqb}
+use lib.ListN.{take, length, replicate}
+use lib.IntN.{ℤ, pos}
+use Rattle.distr.specs.Words.{Read, got, short, mapRead}
+use Rattle.distr.specs.Rule.{Rule}
+use Rattle.distr.specs.Packed.{digits, split, minusOne}
+
+-- The bytes below 243.
+unfoldable pub accepted : List ℕ → List ℕ
+accepted [] = []
+accepted (b ∷ bs) = cond (ltb b 243) (b ∷ accepted bs) (accepted bs)
+
+-- m accepted bytes; a word is read while some are wanted, and what is left of the last one is dropped.
+unfoldable pub bytes : List ℕ → ℕ → Read (List ℕ)
+bytes [] zero = got [] []
+bytes [] (suc m) = short
+bytes (w ∷ ws) zero = got [] (w ∷ ws)
+bytes (w ∷ ws) (suc m) =
+    let found = accepted (digits 256 4 w) in
+    mapRead (λ rest. take (suc m) found ++ rest) (bytes ws (suc m - length found))
+
+-- "0, 1, 2 giving −1, 0, 1."
+abbrev pub tritValue : ℕ → ℤ
+tritValue t = cond (eqb t 0) minusOne (pos (t - 1))
+
+-- ⌈n/5⌉ bytes of five digits each; the digits past n are not used.
+abbrev pub uniformTernary : ℕ → Rule
+uniformTernary n = record {
+  ranges = replicate ((n + 4) / 5) 243;
+  draws = λ ws. bytes ws ((n + 4) / 5);
+  decode = λ ds. map tritValue (take n (split 3 5 ds));
+}
