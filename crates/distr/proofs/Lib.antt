@@ -1,1 +1,5 @@
 pub mod MarkedCases
+pub mod Reading
+pub mod Writing
+pub mod Drawing
+pub mod BitSums

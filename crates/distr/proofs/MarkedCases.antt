@@ -9,8 +9,13 @@ use Rattle.distr.specs.Blocks.{blocksOf}
 use Rattle.distr.specs.CenteredBinomial.{total}
 use Rattle.distr.specs.Gaussian.{magnitude}
 use Rattle.distr.specs.Encoding.{rows}
-use Rattle.distr.specs.Marked.{Case, marked}
+use Rattle.distr.specs.Marked.{Case, marked, traps}
 
 pub marked-cases : map (λ (c : Case). c .given) marked ≡ map (λ (c : Case). c .stated) marked
 unfolding marked mapRead bindRead many word wide choose chooseEach digits split accepted bytes countUp inserted insertEach blocksOf total magnitude rows
 marked-cases = refl
+
+-- The five traps that the document names, as one claim of the same kind.
+pub traps-avoided : map (λ (c : Case). c .given) traps ≡ map (λ (c : Case). c .stated) traps
+unfolding traps mapRead bindRead many word wide choose chooseEach digits split accepted bytes countUp inserted insertEach blocksOf total magnitude rows
+traps-avoided = refl

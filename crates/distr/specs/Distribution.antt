@@ -1,6 +1,6 @@
 -- The rule of each distribution: the enum `SecretKeyDistr`, and `ErrorDistribution`, which adds the centered binomial.
 use Prim.Native.Nat.{ℕ}
-use mathlib.Core.Bool.{Bool, true, false, not, cond}
+use mathlib.Core.Bool.{Bool, false, not, cond}
 use mathlib.Core.List.{List}
 use lib.Dec.{leb}
 use lib.IntN.{ℤ}
@@ -70,8 +70,12 @@ onDeviation (error (CenteredBinomial eta)) gaussian other = other
 abbrev pub isLayered : Distr → Bool
 isLayered d = onDeviation d (λ deviation. not (leb (support deviation) cumulativeLimit)) false
 
+-- The Gaussian's coefficients: "M ≤ 255 uses a lent cumulative table", a larger M the layers.
+abbrev pub gaussianRead : Float → ℕ → Tables → ℕ → List ℕ → Read (List ℤ)
+gaussianRead deviation M tables n ws =
+    cond (leb M cumulativeLimit) (readBy (cumulative M (tables .bounds) n) ws) (layered deviation (tables .layers) n ws)
+
 -- The coefficients that the rules give from the words left.
 unfoldable pub coefficients : Distr → ℕ → Tables → List ℕ → Read (List ℤ)
 coefficients d n tables ws =
-    let drawn = readBy (rule d n (tables .bounds)) ws in
-    cond (isLayered d) (onDeviation d (λ deviation. layered deviation (tables .layers) n ws) drawn) drawn
+    onDeviation d (λ deviation. gaussianRead deviation (support deviation) tables n ws) (readBy (rule d n (tables .bounds)) ws)

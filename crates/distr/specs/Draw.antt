@@ -6,9 +6,10 @@ use lib.Dec.{eqb}
 use lib.ListN.{length, drop, replicate}
 use lib.IntN.{ℤ, pos}
 use Rattle.distr.specs.declared.answer.Answer.{Answer}
+use Rattle.distr.specs.declared.error_distribution.ErrorDistribution.the-variants.{CenteredBinomial, Gaussian as ErrorGaussian}
 use Rattle.distr.specs.Words.{Read, got, short}
 use Rattle.distr.specs.Rule.{Rule, readBy}
-use Rattle.distr.specs.Distribution.{Distr, Tables, coefficients}
+use Rattle.distr.specs.Distribution.{Distr, secret, error, Tables, coefficients}
 use Rattle.distr.specs.Encoding.{encode, rows}
 use Rattle.distr.specs.Numbers.{firstOf, pastEnd, tooLong, stateNumbers, signedNumbers, encodedNumbers, crtNumbers, servesCrt}
 
@@ -36,21 +37,19 @@ abbrev pub drawn : {A : Type 0} → (List ℤ → List A) → List ℕ → List 
 drawn write numbers words place out n rules =
     judged (firstOf numbers) place out (settled write (length words) place n (rules (drop place words)))
 
--- A draw by one rule into the whole output, for a caller that has no sampler: 22, 6, and a number of the rule's own.
+-- A draw into the whole output for a caller that has no sampler: 22, 6, and one number more, of a length, a weight or a table.
+abbrev pub readDraw : {A : Type 0} → (List ℤ → List A) → ℕ → (List ℕ → Read (List ℤ)) → List ℕ → ℕ → List A → Outcome A
+readDraw write number rules words place out =
+    drawn write (pastEnd (length words) place ∷ tooLong (length out) ∷ number ∷ []) words place out (length out) rules
+
+-- The same by one rule.
 unfoldable pub ruleDraw : {A : Type 0} → (List ℤ → List A) → ℕ → Rule → List ℕ → ℕ → List A → Outcome A
-ruleDraw write number rule words place out =
-    drawn write (pastEnd (length words) place ∷ tooLong (length out) ∷ number ∷ []) words place out (length out) (readBy rule)
+ruleDraw write number rule words place out = readDraw write number (readBy rule) words place out
 
 -- A signed draw. `made` says whether making gives the sampler, d is its distribution.
 unfoldable pub signedDraw : Bool → Distr → Tables → List ℕ → ℕ → List ℤ → Outcome ℤ
 signedDraw made d tables words place out =
     drawn (λ cs. cs) (stateNumbers made (length words) place ++ signedNumbers d tables (length out)) words place out
-    (length out) (coefficients d (length out) tables)
-
--- A draw of residues of one modulus.
-unfoldable pub encodedDraw : Bool → Distr → Tables → ℕ → List ℕ → ℕ → List ℕ → Outcome ℕ
-encodedDraw made d tables modulus words place out =
-    drawn (map (encode modulus)) (stateNumbers made (length words) place ++ encodedNumbers d tables (length out) modulus) words place out
     (length out) (coefficients d (length out) tables)
 
 -- A CRT draw of `count` coefficients; "an empty output now succeeds and reads nothing".
@@ -59,3 +58,17 @@ crtDraw made d tables count moduli words place out =
     let numbers = stateNumbers (made && servesCrt d) (length words) place ++ crtNumbers d tables (length out) count moduli in
     cond (eqb (length out) 0) (judged (firstOf numbers) place out (record { number = 0; place = place; output = out }))
     (drawn (rows moduli) numbers words place out count (coefficients d count tables))
+
+-- A draw of residues of one modulus.
+abbrev pub residueDraw : Bool → Distr → Tables → ℕ → List ℕ → ℕ → List ℕ → Outcome ℕ
+residueDraw made d tables modulus words place out =
+    drawn (map (encode modulus)) (stateNumbers made (length words) place ++ encodedNumbers d tables (length out) modulus) words place out
+    (length out) (coefficients d (length out) tables)
+
+-- An encoded draw. "An encoded centered binomial is a CRT draw of one modulus, so modulus 0 gives 10 there."
+unfoldable pub encodedDraw : Bool → Distr → Tables → ℕ → List ℕ → ℕ → List ℕ → Outcome ℕ
+encodedDraw made (secret d) tables modulus words place out = residueDraw made (secret d) tables modulus words place out
+encodedDraw made (error (ErrorGaussian deviation)) tables modulus words place out =
+    residueDraw made (error (ErrorGaussian deviation)) tables modulus words place out
+encodedDraw made (error (CenteredBinomial eta)) tables modulus words place out =
+    crtDraw made (error (CenteredBinomial eta)) tables (length out) (modulus ∷ []) words place out

@@ -14,7 +14,4 @@ pub mod Encoding
 pub mod Making
 pub mod Numbers
 pub mod Draw
-pub mod Inside
-pub mod Formula
-pub mod Demand3
 pub mod Marked

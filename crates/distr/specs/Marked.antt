@@ -3,14 +3,15 @@ use Prim.Native.Nat.{ℕ, _-_, _^_}
 use mathlib.Core.List.{List, [], _∷_, map}
 use lib.IntN.{ℤ, pos, negsuc}
 use Rattle.distr.specs.declared.secret_key_distr.BlockOccupancy.the-variants.{ExactlyOne}
-use Rattle.distr.specs.Words.{Read, got, mapRead, choose}
+use lib.ListN.{replicate}
+use Rattle.distr.specs.Words.{Read, got, short, mapRead, choose}
 use Rattle.distr.specs.Rule.{readBy}
 use Rattle.distr.specs.Packed.{uniformBinary, minusOne}
 use Rattle.distr.specs.UniformTernary.{uniformTernary}
 use Rattle.distr.specs.Insertion.{fixedComposition, fixedBinaryWeight}
 use Rattle.distr.specs.Blocks.{blockBinary}
 use Rattle.distr.specs.CenteredBinomial.{centeredBinomial}
-use Rattle.distr.specs.Gaussian.{cumulativeValue}
+use Rattle.distr.specs.Gaussian.{cumulativeValue, cumulative}
 use Rattle.distr.specs.Encoding.{rows}
 
 pub record Case : Type 0 where
@@ -57,4 +58,21 @@ marked =
     ∷ record { given = got (naturals (rows (5 ∷ 7 ∷ []) (minusTwo ∷ []))) []; stated = got (pos 3 ∷ pos 5 ∷ []) [] }
     -- 12 blocks of 2, exactly one, words 1, 0: 0 1 1 0
     ∷ record { given = readBy (blockBinary 2 ExactlyOne 4) (1 ∷ 0 ∷ []); stated = got (pos 0 ∷ pos 1 ∷ pos 1 ∷ pos 0 ∷ []) [] }
+    ∷ []
+
+-- "Traps seen in candidates' work", as a second table of the same kind.
+unfoldable pub traps : List Case
+traps =
+    -- byte 243 reduced: it is skipped, and the byte 5 after it gives 1 0 −1 −1 −1
+    record { given = readBy (uniformTernary 5) (0x5F3 ∷ []); stated = got (pos 1 ∷ pos 0 ∷ minusOne ∷ minusOne ∷ minusOne ∷ []) [] }
+    -- no extra word read for n = 32: one word is too few, and of three words one is left
+    ∷ record { given = readBy (uniformBinary 32) (0 ∷ []); stated = short }
+    ∷ record { given = readBy (uniformBinary 32) (0 ∷ 1 ∷ 2 ∷ []); stated = got (replicate 32 (pos 0)) (2 ∷ []) }
+    -- the sign taken from a fresh word in the cumulative draw: the word 5 is enough, and its own lowest bit says +1
+    ∷ record { given = readBy (cumulative 2 bounds 1) (5 ∷ 0 ∷ 6 ∷ []); stated = got (pos 1 ∷ []) (6 ∷ []) }
+    -- −0 encoded as the modulus: the even word 2 has magnitude 0, whose residue is 0
+    ∷ record { given = got (naturals (rows (5 ∷ 7 ∷ []) (cumulativeValue 2 bounds 2 ∷ []))) []; stated = got (pos 0 ∷ pos 0 ∷ []) [] }
+    -- composition ties to the last: with one of each, 0 fills, −1 and then 1 are inserted; with two −1 and two 1, −1 fills
+    ∷ record { given = readBy (fixedComposition 1 1 3) (0 ∷ 0 ∷ []); stated = got (pos 1 ∷ pos 0 ∷ minusOne ∷ []) [] }
+    ∷ record { given = readBy (fixedComposition 2 2 4) (0 ∷ 0 ∷ []); stated = got (pos 1 ∷ minusOne ∷ minusOne ∷ pos 1 ∷ []) [] }
     ∷ []

@@ -45,15 +45,15 @@ lengthNumber (error d) n = 0
 abbrev pub modulusNumber : Distr → ℕ → ℕ
 modulusNumber d modulus = refuse (leb modulus (largest d)) 9
 
--- "12 cumulative table malformed"; "13 layer tables malformed". Tables that a distribution does not use are not judged.
+-- "12 cumulative table malformed"; "13 layer tables malformed".
+abbrev pub gaussianTable : ℕ → Tables → ℕ
+gaussianTable M tables =
+    cond (leb M cumulativeLimit) (refuse (not (cumulativeTable M (tables .bounds))) 12)
+    (refuse (not (layerTables M (tables .layers))) 13)
+
+-- Tables that a distribution does not use are not judged.
 unfoldable pub tableNumber : Distr → Tables → ℕ
-tableNumber d tables = onDeviation d judged 0
-  where
-    judged : lib.Ieee.Float → ℕ
-    judged deviation =
-        let M = support deviation in
-        cond (leb M cumulativeLimit) (refuse (not (cumulativeTable M (tables .bounds))) 12)
-        (refuse (not (layerTables M (tables .layers))) 13)
+tableNumber d tables = onDeviation d (λ deviation. gaussianTable (support deviation) tables) 0
 
 -- "22 place past the end of the words."
 abbrev pub pastEnd : ℕ → ℕ → ℕ

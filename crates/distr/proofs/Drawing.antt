@@ -1,0 +1,101 @@
+-- Laws of a draw's answer: refused by its first number, or settled by the rules.
+use mathlib.Core.Path.{_≡_, refl, ap, _∙_}
+use mathlib.Core.List.{List, [], _∷_}
+use Prim.Native.Nat.{ℕ, zero, suc, _-_, _<_, _≤_}
+use native.Mathlib.Nat.{not-suc-le-zero}
+use native.Mathlib.Omega.{arith}
+use borrow.Author.Tests.{lt-ltb, le-ltb, ne-eqb}
+use lib.ListN.{length, drop, replicate}
+use lib.IntN.{ℤ, pos}
+use Rattle.distr.specs.Words.{Read, got, short}
+use Rattle.distr.specs.Rule.{Rule, readBy}
+use Rattle.distr.specs.Numbers.{firstOf}
+use Rattle.distr.specs.Draw.{Outcome, settled, judged, readDraw, ruleDraw}
+
+-- the first number decides: 0 is passed over, another stands
+pub first-zero : (k : ℕ) (ns : List ℕ) → k ≡ 0 → firstOf (k ∷ ns) ≡ firstOf ns
+unfolding firstOf
+first-zero k ns e = rw e
+
+pub first-some : (k : ℕ) (ns : List ℕ) → 0 < k → firstOf (k ∷ ns) ≡ k
+unfolding firstOf
+first-some zero ns h = absurd (not-suc-le-zero h)
+first-some (suc k) ns h = refl
+
+-- what is judged by 0 is drawn, and what another number judges is left as it was
+judged-zero : {A : Type 0} (k place : ℕ) (out : List A) (given : Outcome A) → k ≡ 0 → judged k place out given ≡ given
+unfolding judged
+judged-zero k place out given e = rw e
+
+judged-some : {A : Type 0} (k place : ℕ) (out : List A) (given : Outcome A) → 0 < k
+    → judged k place out given ≡ record { number = k; place = place; output = out }
+unfolding judged
+judged-some k place out given h = rw (ne-eqb k 0 (λ e. omega arith))
+
+module _ {A : Type 0} (write : List ℤ → List A) (number : ℕ) (rules : List ℕ → Read (List ℤ)) (words : List ℕ) (place : ℕ) (out : List A) where
+  -- 22
+  pub read-past-end : length words < place → readDraw write number rules words place out ≡ record { number = 22; place = place; output = out }
+  unfolding judged firstOf
+  read-past-end h = rw (lt-ltb (length words) place h)
+
+  -- 6
+  pub read-too-long : place ≤ length words → 65536 < length out → readDraw write number rules words place out ≡ record { number = 6; place = place; output = out }
+  unfolding judged firstOf
+  read-too-long h k = rw (le-ltb (length words) place h, lt-ltb 65536 (length out) k)
+
+  -- neither: the draw's own number decides
+  passed : place ≤ length words → length out ≤ 65536
+      → readDraw write number rules words place out
+      ≡ judged (firstOf (number ∷ [])) place out (settled write (length words) place (length out) (rules (drop place words)))
+  unfolding firstOf
+  passed h k = rw (le-ltb (length words) place h, le-ltb 65536 (length out) k)
+
+  -- the draw's own number
+  pub read-own : place ≤ length words → length out ≤ 65536 → 0 < number → readDraw write number rules words place out ≡ record { number = number; place = place; output = out }
+  read-own h k l = passed h k ∙ rw (first-some number [] l) (judged-some number place out _ l)
+
+  -- accepted: what the rules give is settled
+  pub read-settled : place ≤ length words → length out ≤ 65536 → number ≡ 0
+      → readDraw write number rules words place out ≡ settled write (length words) place (length out) (rules (drop place words))
+  unfolding firstOf
+  read-settled h k l = passed h k ∙ judged-zero (firstOf (number ∷ [])) place out _ (first-zero number [] l)
+
+  -- enough words or not
+  pub read-got : place ≤ length words → length out ≤ 65536 → number ≡ 0 → (cs : List ℤ) (rest : List ℕ) → rules (drop place words) ≡ got cs rest
+      → readDraw write number rules words place out ≡ record { number = 0; place = length words - length rest; output = write cs }
+  unfolding settled
+  read-got h k l cs rest e = read-settled h k l ∙ ap (settled write (length words) place (length out)) e
+
+  pub read-short : place ≤ length words → length out ≤ 65536 → number ≡ 0 → rules (drop place words) ≡ short
+      → readDraw write number rules words place out ≡ record { number = 23; place = place; output = write (replicate (length out) (pos 0)) }
+  unfolding settled
+  read-short h k l e = read-settled h k l ∙ ap (settled write (length words) place (length out)) e
+
+-- the same of a draw by one rule
+module _ {A : Type 0} (write : List ℤ → List A) (number : ℕ) (rule : Rule) (words : List ℕ) (place : ℕ) (out : List A) where
+  pub rule-past-end : length words < place → ruleDraw write number rule words place out ≡ record { number = 22; place = place; output = out }
+  unfolding ruleDraw
+  rule-past-end = read-past-end write number (readBy rule) words place out
+
+  pub rule-too-long : place ≤ length words → 65536 < length out → ruleDraw write number rule words place out ≡ record { number = 6; place = place; output = out }
+  unfolding ruleDraw
+  rule-too-long = read-too-long write number (readBy rule) words place out
+
+  pub rule-own : place ≤ length words → length out ≤ 65536 → 0 < number → ruleDraw write number rule words place out ≡ record { number = number; place = place; output = out }
+  unfolding ruleDraw
+  rule-own = read-own write number (readBy rule) words place out
+
+  pub rule-settled : place ≤ length words → length out ≤ 65536 → number ≡ 0
+      → ruleDraw write number rule words place out ≡ settled write (length words) place (length out) (readBy rule (drop place words))
+  unfolding ruleDraw
+  rule-settled = read-settled write number (readBy rule) words place out
+
+  pub rule-got : place ≤ length words → length out ≤ 65536 → number ≡ 0 → (cs : List ℤ) (rest : List ℕ) → readBy rule (drop place words) ≡ got cs rest
+      → ruleDraw write number rule words place out ≡ record { number = 0; place = length words - length rest; output = write cs }
+  unfolding ruleDraw
+  rule-got = read-got write number (readBy rule) words place out
+
+  pub rule-short : place ≤ length words → length out ≤ 65536 → number ≡ 0 → readBy rule (drop place words) ≡ short
+      → ruleDraw write number rule words place out ≡ record { number = 23; place = place; output = write (replicate (length out) (pos 0)) }
+  unfolding ruleDraw
+  rule-short = read-short write number (readBy rule) words place out

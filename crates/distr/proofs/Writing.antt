@@ -1,0 +1,72 @@
+-- Laws of writing a list front to back into an output, over any element type.
+use mathlib.Core.Path.{_≡_, refl, sym, ap, ap₂, _∙_}
+use mathlib.Core.List.{List, [], _∷_, _++_, map, append-nil}
+use Prim.Native.Nat.{ℕ, zero, suc, _<_, _≤_}
+use native.Mathlib.Nat.{zero-add}
+use native.Mathlib.Omega.{arith}
+use lib.ListN.{length, getD, take, drop, set, replicate, length-append, length-take, length-drop}
+use lib.Seq.{drop-cons, set-at, length-take-le, append-snoc, take-suc, drop-length, take-all}
+use lib.IntN.{ℤ, pos, negsuc}
+use Rattle.distr.specs.Encoding.{signedWith}
+
+module _ {A : Type 0} where
+  -- the first i elements of xs are written
+  abbrev pub written : List A → ℕ → List A → List A
+  written xs i out = take i xs ++ drop i out
+
+  pub written-none : (xs out : List A) → written xs 0 out ≡ out
+  written-none xs out = refl
+
+  pub written-length : (xs out : List A) (i : ℕ) → i ≤ length xs → i ≤ length out → length (written xs i out) ≡ length out
+  written-length xs out i h k = simp (length-append, length-take, length-drop) (omega arith)
+
+  -- one store more
+  pub written-more : (xs out : List A) (i : ℕ) (d : A) → i < length xs → i < length out → set (written xs i out) i (getD xs i d) ≡ written xs (suc i) out
+  written-more xs out i d h k =
+      ap (λ (l : List A). set (take i xs ++ l) i (getD xs i d)) (drop-cons out i d k)
+      ∙ set-at (take i xs) (getD out i d) (drop (suc i) out) (getD xs i d) i (length-take-le i xs (omega arith))
+      ∙ sym (append-snoc (take i xs) (getD xs i d) (drop (suc i) out))
+      ∙ ap (λ (l : List A). l ++ drop (suc i) out) (sym (take-suc xs i d h))
+
+  pub written-all : (xs out : List A) → length xs ≡ length out → written xs (length out) out ≡ xs
+  written-all xs out h =
+      ap (λ (l : List A). take (length out) xs ++ l) (drop-length out) ∙ append-nil (take (length out) xs) ∙ take-all (length out) xs (omega arith)
+
+pub map-replicate : {A B : Type 0} (f : A → B) (n : ℕ) (a : A) → map f (replicate n a) ≡ replicate n (f a)
+map-replicate f zero a = refl
+map-replicate f (suc n) a = ap (λ l. f a ∷ l) (map-replicate f n a)
+
+pub map-map : {A B C : Type 0} (g : B → C) (f : A → B) (xs : List A) → map g (map f xs) ≡ map (λ x. g (f x)) xs
+map-map g f [] = refl
+map-map g f (x ∷ xs) = ap (λ l. g (f x) ∷ l) (map-map g f xs)
+
+pub map-id : {A : Type 0} (xs : List A) → map (λ x. x) xs ≡ xs
+map-id [] = refl
+map-id (x ∷ xs) = ap (λ l. x ∷ l) (map-id xs)
+
+pub map-take : {A B : Type 0} (f : A → B) (n : ℕ) (xs : List A) → map f (take n xs) ≡ take n (map f xs)
+map-take f zero xs = refl
+map-take f (suc n) [] = refl
+map-take f (suc n) (x ∷ xs) = ap (λ l. f x ∷ l) (map-take f n xs)
+
+pub map-drop : {A B : Type 0} (f : A → B) (n : ℕ) (xs : List A) → map f (drop n xs) ≡ drop n (map f xs)
+map-drop f zero xs = refl
+map-drop f (suc n) [] = refl
+map-drop f (suc n) (x ∷ xs) = map-drop f n xs
+
+pub map-append : {A B : Type 0} (f : A → B) (xs ys : List A) → map f (xs ++ ys) ≡ map f xs ++ map f ys
+map-append f [] ys = refl
+map-append f (x ∷ xs) ys = ap (λ l. f x ∷ l) (map-append f xs ys)
+
+pub map-ext : {A B : Type 0} (f g : A → B) → ((a : A) → f a ≡ g a) → (xs : List A) → map f xs ≡ map g xs
+map-ext f g h [] = refl
+map-ext f g h (x ∷ xs) = ap₂ (λ a as′. a ∷ as′) (h x) (map-ext f g h xs)
+
+-- with −1 encoded as itself nothing changes
+pub signedWith-minus-one : (cs : List ℤ) → map (signedWith (negsuc 0)) cs ≡ cs
+signedWith-minus-one cs = map-ext (signedWith (negsuc 0)) (λ c. c) same cs ∙ map-id cs
+  where
+    same : (c : ℤ) → signedWith (negsuc 0) c ≡ c
+    same (pos m) = refl
+    same (negsuc zero) = refl
+    same (negsuc (suc m)) = ap (λ k. negsuc (suc k)) (zero-add m)
