@@ -9,7 +9,7 @@ use borrow.Author.Tests.{le-ltb}
 use lib.Dec.{T, leb, ltb, eqb, eqb→eq, eqb·suc-zero}
 use lib.ListN.{length, drop, replicate, length-replicate}
 use lib.IntN.{ℤ, pos}
-use lib.Ieee.Fits.{and-i, eq→eqb}
+use lib.Ieee.Fits.{and-i, and-l, and-r, eq→eqb}
 use lib.Ieee.{Float}
 use Rattle.distr.specs.declared.secret_key_distr.SecretKeyDistr.the-variants.{UniformBinary, Binary, SparseTernary, UniformTernary, Ternary, FixedHammingWeightBinary, BlockBinary, FixedHammingWeightTernary, FixedCompositionTernary, Gaussian}
 use Rattle.distr.specs.declared.error_distribution.ErrorDistribution.the-variants.{CenteredBinomial, Gaussian as ErrorGaussian}
@@ -25,7 +25,7 @@ use Rattle.counts.specs.Inside.{inside}
 use Rattle.counts.specs.Formula.{formula}
 use Rattle.counts.specs.Demand3.{Exactly, inBox, Carries, Meets, Accepted, accepted, Reaches, Counted, Demand3}
 use Rattle.counts.proofs.Exact.{exactly-as}
-use Rattle.counts.proofs.Requests.{requests-counted}
+use Rattle.counts.proofs.Requests.{what-passed, requests-counted}
 
 -- ---- a Gaussian that is not layered draws by its rule
 
@@ -223,3 +223,35 @@ module _ (made : Bool) (d : Distr) (n : ℕ) (tables : Tables) (is-made : T made
     carried = all-counted .carried;
     boxed = all-counted .boxed;
   }
+
+-- ---- the test on the request and what its calls answer say the same
+
+settled-number : (count place n : ℕ) (given : Read (List ℤ))
+    → (settled (λ x. x) count place n given .number ≡ 0) ⊎ (settled (λ x. x) count place n given .number ≡ 22) ⊎ (settled (λ x. x) count place n given .number ≡ 23)
+unfolding settled
+settled-number count place n (got cs rest) = inl refl
+settled-number count place n short = inr (inr refl)
+
+answer-number : (past : Bool) (ns : List ℕ) (place count n : ℕ) (out : List ℤ) (given : Read (List ℤ)) → firstOf ns ≡ 0
+    → let o = judged (firstOf (refuse past 22 ∷ ns)) place out (settled (λ x. x) count place n given) in
+    (o .number ≡ 0) ⊎ (o .number ≡ 22) ⊎ (o .number ≡ 23)
+unfolding judged firstOf
+answer-number true ns place count n out given e = inr (inl refl)
+answer-number false ns place count n out given e = rw e (settled-number count place n given)
+
+pub accepted-answers : (d : Distr) (n : ℕ) (tables : Tables) → T (accepted d n tables) → Accepted true d n tables
+unfolding signedDraw firstOf
+accepted-answers d n tables t = record {
+  not-layered = what-passed d n tables t .no-layers;
+  answers = λ words place out o e m.
+      subst (λ (x : Outcome ℤ). (x .number ≡ 0) ⊎ (x .number ≡ 22) ⊎ (x .number ≡ 23)) (sym m)
+      (answer-number (ltb (length words) place) (signedNumbers d tables (length out)) place (length words) (length out) out
+      (coefficients d (length out) tables (drop place words))
+      (ap (λ (k : ℕ). firstOf (signedNumbers d tables k)) e ∙ numbers));
+}
+  where
+    numbers : firstOf (signedNumbers d tables n) ≡ 0
+    numbers =
+        eqb→eq (firstOf (signedNumbers d tables n)) 0
+        (and-r (eqb (makingNumber d) 0) (eqb (firstOf (signedNumbers d tables n)) 0)
+        (and-l (eqb (makingNumber d) 0 && eqb (firstOf (signedNumbers d tables n)) 0) (not (isLayered d)) t))
