@@ -42,8 +42,8 @@ lengthNumber (secret (Gaussian deviation)) n = 0
 lengthNumber (error d) n = 0
 
 -- "9 largest magnitude above modulus − 1"; "modulus 0 gives 9".
-abbrev pub modulusNumber : Distr → ℕ → ℕ
-modulusNumber d modulus = refuse (leb modulus (largest d)) 9
+abbrev pub modulusNumber : ℕ → ℕ → ℕ
+modulusNumber most modulus = refuse (leb modulus most) 9
 
 -- "12 cumulative table malformed"; "13 layer tables malformed".
 abbrev pub gaussianTable : ℕ → Tables → ℕ
@@ -69,7 +69,7 @@ signedNumbers d tables n = tooLong n ∷ lengthNumber d n ∷ tableNumber d tabl
 
 -- "Draw order: 21, 22, 6, 7 or 8, 9, 12 or 13" (then 23).
 abbrev pub encodedNumbers : Distr → Tables → ℕ → ℕ → List ℕ
-encodedNumbers d tables n modulus = tooLong n ∷ lengthNumber d n ∷ modulusNumber d modulus ∷ tableNumber d tables ∷ []
+encodedNumbers d tables n modulus = tooLong n ∷ lengthNumber d n ∷ modulusNumber (largest d) modulus ∷ tableNumber d tables ∷ []
 
 -- "CRT draws serve the Gaussian and the centered binomial, another sampler gives 21."
 unfoldable pub servesCrt : Distr → Bool
@@ -81,11 +81,11 @@ abbrev pub shapeNumber : ℕ → ℕ → ℕ → ℕ
 shapeNumber n count moduli = refuse (not (eqb n (count * moduli)) || ltb (2 ^ 64 - 1) (count * moduli)) 11
 
 -- "Then modulus by modulus 10 before 9"; "10 a CRT modulus of 0".
-unfoldable pub moduliNumbers : Distr → List ℕ → List ℕ
-moduliNumbers d [] = []
-moduliNumbers d (modulus ∷ moduli) = refuse (eqb modulus 0) 10 ∷ modulusNumber d modulus ∷ moduliNumbers d moduli
+unfoldable pub moduliNumbers : ℕ → List ℕ → List ℕ
+moduliNumbers most [] = []
+moduliNumbers most (modulus ∷ moduli) = refuse (eqb modulus 0) 10 ∷ modulusNumber most modulus ∷ moduliNumbers most moduli
 
 -- "CRT order: 21, 22, 11, 6, then modulus by modulus 10 before 9, then 12 or 13" (then the empty output, then 23).
 abbrev pub crtNumbers : Distr → Tables → ℕ → ℕ → List ℕ → List ℕ
 crtNumbers d tables n count moduli =
-    shapeNumber n count (length moduli) ∷ tooLong n ∷ (moduliNumbers d moduli ++ (tableNumber d tables ∷ []))
+    shapeNumber n count (length moduli) ∷ tooLong n ∷ (moduliNumbers (largest d) moduli ++ (tableNumber d tables ∷ []))
