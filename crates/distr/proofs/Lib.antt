@@ -3,3 +3,4 @@ pub mod Reading
 pub mod Writing
 pub mod Drawing
 pub mod BitSums
+pub mod Rising

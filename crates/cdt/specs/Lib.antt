@@ -1,0 +1,2 @@
+-- What the search of a cumulative table keeps.
+pub mod Narrowing

@@ -1,0 +1,102 @@
+// What an output type adds: the encoding of a coefficient, and the loops that store.
+use crate::index;
+ghost use mathlib.Core.Path.{_≡_};
+ghost use mathlib.Core.List.{map};
+ghost use Prim.Native.Nat.{_+_, _*_, _<_, _≤_, _^_};
+ghost use lib.Dec.{T};
+ghost use lib.ListN.{length, drop, replicate};
+ghost use lib.IntN.{pos};
+ghost use Rattle.distr.specs.Words.{many, wide, mapRead, got};
+ghost use Rattle.distr.specs.Gaussian.{cumulativeTable, cumulativeValue, signed};
+ghost use Rattle.distr.specs.Encoding.{encodeWith};
+
+// A magnitude with its sign.
+fn encode_signed(positive: bool, magnitude: u64) -> i64
+    requires { ⌜ magnitude < 2 ^ 63 ⌝ }
+    ensures { λ r. ⌜ r ≡ signed positive magnitude ⌝ }
+{
+    if positive {
+        magnitude as i64
+    } else {
+        -(magnitude as i64)
+    }
+}
+
+// The same as a residue, by the encoding of -1; zero stays 0. The difference is cut off at 0, so that every modulus has an answer.
+fn encode_modular(positive: bool, magnitude: u64, modulus_minus_one: u64) -> u64
+    ensures { λ r. ⌜ r ≡ encodeWith «modulus_minus_one» (signed positive magnitude) ⌝ }
+{
+    if positive | (magnitude == 0) {
+        return magnitude;
+    }
+    let down = magnitude - 1;
+    if modulus_minus_one < down {
+        return 0;
+    }
+    modulus_minus_one - down
+}
+
+// The whole output becomes zero.
+pub fn clear_i64(output: &mut [i64])
+    ensures { λ _. ⌜ now (output .exit) ≡ replicate (length (now (output .entry))) (pos 0) ⌝ }
+{
+    let mut i: usize = 0;
+    while i < output.len() {
+        output[i] = 0;
+        i += 1;
+    }
+}
+
+// The same for residues.
+pub fn clear_u64(output: &mut [u64])
+    ensures { λ _. ⌜ now (output .exit) ≡ replicate (length (now (output .entry))) 0 ⌝ }
+{
+    let mut i: usize = 0;
+    while i < output.len() {
+        output[i] = 0;
+        i += 1;
+    }
+}
+
+// Each element by a 64-bit word. The caller has counted the words.
+pub fn fill_i64(output: &mut [i64], top: usize, bounds: &[u64], words: &[u32], place: usize)
+    requires { ⌜ T (cumulativeTable top (now bounds)) × (place + 2 * length (now output) ≤ length (now words)) ⌝ }
+    ensures { λ _. ⌜ mapRead (map (cumulativeValue top (now (bounds .entry))))
+        (many wide (length (now (output .entry))) (drop place (now (words .entry)))) ≡
+        got (now (output .exit)) (drop (place + 2 * length (now (output .entry))) (now (words .entry))) ⌝ }
+{
+    let n = output.len();
+    let mut i: usize = 0;
+    let mut at = place;
+    while i < n {
+        let sampled = index::sample_magnitude(bounds, top, words[at], words[at + 1]);
+        output[i] = encode_signed(sampled.positive, sampled.magnitude);
+        i += 1;
+        at += 2;
+    }
+}
+
+// The same as residues, by the encoding of -1.
+pub fn fill_u64(
+    output: &mut [u64],
+    minus_one: u64,
+    top: usize,
+    bounds: &[u64],
+    words: &[u32],
+    place: usize,
+)
+    requires { ⌜ T (cumulativeTable top (now bounds)) × (place + 2 * length (now output) ≤ length (now words)) ⌝ }
+    ensures { λ _. ⌜ mapRead (map (λ w. encodeWith «minus_one» (cumulativeValue top (now (bounds .entry)) w)))
+        (many wide (length (now (output .entry))) (drop place (now (words .entry)))) ≡
+        got (now (output .exit)) (drop (place + 2 * length (now (output .entry))) (now (words .entry))) ⌝ }
+{
+    let n = output.len();
+    let mut i: usize = 0;
+    let mut at = place;
+    while i < n {
+        let sampled = index::sample_magnitude(bounds, top, words[at], words[at + 1]);
+        output[i] = encode_modular(sampled.positive, sampled.magnitude, minus_one);
+        i += 1;
+        at += 2;
+    }
+}

@@ -1,0 +1,5 @@
+pub mod Differences
+pub mod Samplers
+pub mod Values
+pub mod Clearing
+pub mod Numbers

@@ -1,0 +1,2 @@
+-- What making a threshold hands back.
+pub mod Made

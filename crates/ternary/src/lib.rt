@@ -1,0 +1,4 @@
+// `Binary` and `Ternary`: coefficients by the thresholds of 64-bit words.
+pub mod binary;
+mod ends;
+pub mod ternary;

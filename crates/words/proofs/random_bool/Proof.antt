@@ -1,0 +1,41 @@
+-- `words::random_bool` tells the coin of the word at the place.
+use native.Mathlib.Numerals.{add-one}
+use native.Mathlib.Omega.{arith}
+use borrow.Author.Needs.{needs}
+use borrow.Author.Tests.{le-leb, lt-leb}
+use Rattle.words.proofs.Places.{coin-there, coin-missing, told-yes, told-no, told-none}
+use Rattle.words.proofs.random_bool.Statement.{statement}
+use Rattle.words.proofs.random_bool.Tie as tie
+
+mul-if2 : tie.Need-mul-if2
+mul-if2 c = search needs
+
+shared-slice-read-if2 : tie.Need-shared-slice-read-if2
+shared-slice-read-if2 c = search needs
+
+add-t11 : tie.Need-add-t11
+add-t11 c = search needs
+
+add-t12 : tie.Need-add-t12
+add-t12 c = search needs
+
+returns : tie.Need-returns
+returns c =
+    let a = c .before .before .before .args in
+    rw (add-one (a .place))
+    (told-yes (a .words .now) _ _ (omega arith) (coin-there (a .words .now) (a .place) _ (c .before .before .if1 .taken) (le-leb _ _ (c .if2 .taken))))
+
+returns-2 : tie.Need-returns-2
+returns-2 c =
+    let a = c .before .before .before .args in
+    rw (add-one (a .place))
+    (told-no (a .words .now) _ _ (omega arith) (coin-there (a .words .now) (a .place) _ (c .before .before .if1 .taken) (lt-leb _ _ (c .if2 .left))))
+
+returns-3 : tie.Need-returns-3
+returns-3 c =
+    let a = c .before .args in
+    told-none (a .words .now) _ (coin-missing (a .words .now) (a .place) (c .if1 .left))
+
+pub random-bool-spec : {M : Type 1} → statement M
+random-bool-spec =
+    tie.close (tie.spec mul-if2 shared-slice-read-if2 add-t11 add-t12 returns returns-2 returns-3)

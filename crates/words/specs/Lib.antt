@@ -1,0 +1,2 @@
+-- What the functions over lent words hand back.
+pub mod Reading

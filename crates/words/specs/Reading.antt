@@ -1,0 +1,24 @@
+-- A reading of the rules as the functions hand it back: the value, and the place where the words left begin.
+use Prim.Native.Nat.{ℕ, _-_, _^_}
+use mathlib.Core.Bool.{Bool, true, false, cond}
+use lib.ListN.{length}
+use Rattle.distr.specs.declared.threshold.Threshold.{Threshold}
+use Rattle.distr.specs.Words.{Read, got, short}
+use Rattle.words.specs.declared.Taken.{Taken}
+use Rattle.words.specs.declared.Taken.the-variants.{Got, Short}
+use Rattle.words.specs.declared.Told.{Told}
+use Rattle.words.specs.declared.Told.the-variants.{Yes, No, Short as NotTold}
+
+-- Of `count` words in all, the place is where those left begin.
+unfoldable pub taken : ℕ → Read ℕ → Taken
+taken count (got v rest) = Got v (count - length rest)
+taken count short = Short
+
+unfoldable pub told : ℕ → Read Bool → Told
+told count (got true rest) = Yes (count - length rest)
+told count (got false rest) = No (count - length rest)
+told count short = NotTold
+
+-- 2^64 where full, which a u64 cannot hold.
+abbrev pub thresholdValue : Threshold → ℕ
+thresholdValue t = cond (t .full) (2 ^ 64) (t .below)

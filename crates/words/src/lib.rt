@@ -1,0 +1,116 @@
+// Lent words in place of a random source: each function reads from a place of the words and hands back the value with the place after it.
+use distr::threshold::Threshold;
+ghost use mathlib.Core.Path.{_≡_};
+ghost use lib.ListN.{length, drop};
+ghost use Rattle.distr.specs.Words.{word, wide, choose, coin, chance};
+ghost use Rattle.words.specs.Reading.{taken, told, thresholdValue};
+
+// A value and the place after the words that gave it.
+pub enum Taken {
+    Got { value: u64, place: usize },
+    Short,
+}
+
+// A yes or a no, and the place after the words that gave it.
+pub enum Told {
+    Yes { place: usize },
+    No { place: usize },
+    Short,
+}
+
+// The next word.
+pub fn next_u32(words: &[u32], place: usize) -> Taken
+    ensures { λ r. ⌜ r ≡ taken (length (now (words .entry))) (word (drop place (now (words .entry)))) ⌝ }
+{
+    if place < words.len() {
+        let value = words[place] as u64;
+        let next = place + 1;
+        Taken::Got { value, place: next }
+    } else {
+        Taken::Short
+    }
+}
+
+// The next two words as one of 64 bits, low half first.
+pub fn next_u64(words: &[u32], place: usize) -> Taken
+    ensures { λ r. ⌜ r ≡ taken (length (now (words .entry))) (wide (drop place (now (words .entry)))) ⌝ }
+{
+    let n = words.len();
+    if n < 2 {
+        return Taken::Short;
+    }
+    if n - 2 < place {
+        return Taken::Short;
+    }
+    let low = words[place] as u64;
+    let high = words[place + 1] as u64;
+    Taken::Got {
+        value: low + high * 0x1_0000_0000,
+        place: place + 2,
+    }
+}
+
+// A choice among k. A word w is skipped where its run of k, from w - w % k on, does not end at 2^32 or below: one division for each word.
+pub fn uniform_below(words: &[u32], place: usize, k: u64) -> Taken
+    ensures { λ r. ⌜ r ≡ taken (length (now (words .entry))) (choose k (drop place (now (words .entry)))) ⌝ }
+{
+    if k == 0 {
+        return Taken::Short;
+    }
+    if 0x1_0000_0000 < k {
+        return Taken::Short;
+    }
+    let last = 0x1_0000_0000 - k;
+    let mut i = place;
+    while i < words.len() {
+        let w = words[i] as u64;
+        let r = w % k;
+        i += 1;
+        if w - r <= last {
+            return Taken::Got { value: r, place: i };
+        }
+    }
+    Taken::Short
+}
+
+// A coin: yes for a word of 2^31 or more.
+pub fn random_bool(words: &[u32], place: usize) -> Told
+    ensures { λ r. ⌜ r ≡ told (length (now (words .entry))) (coin (drop place (now (words .entry)))) ⌝ }
+{
+    if place < words.len() {
+        if 0x8000_0000 <= words[place] {
+            Told::Yes { place: place + 1 }
+        } else {
+            Told::No { place: place + 1 }
+        }
+    } else {
+        Told::Short
+    }
+}
+
+// Yes for a 64-bit word below the threshold. The full threshold says yes and reads nothing.
+pub fn bernoulli(words: &[u32], place: usize, threshold: Threshold) -> Told
+    ensures { λ r. ⌜ r ≡ told (length (now (words .entry))) (chance (thresholdValue threshold) (drop place (now (words .entry)))) ⌝ }
+{
+    let full = threshold.full;
+    let below = threshold.below;
+    if full {
+        if place < words.len() {
+            return Told::Yes { place };
+        }
+        return Told::Yes { place: words.len() };
+    }
+    match next_u64(words, place) {
+        Taken::Got {
+            value,
+            place: after,
+        } => {
+            if value < below {
+                Told::Yes { place: after }
+            } else {
+                Told::No { place: after }
+            }
+        }
+        Taken::Short => Told::Short,
+    }
+}
