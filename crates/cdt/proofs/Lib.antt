@@ -1,6 +1,5 @@
 pub mod Halving
 pub mod Judging
 pub mod Signing
-pub mod Picking
 pub mod Settling
 pub mod Answering

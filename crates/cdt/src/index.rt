@@ -50,7 +50,7 @@ fn cdt_index(bounds: &[u64], top: usize, word: u64) -> usize
 }
 
 // The coefficient of the 64-bit word of two halves, low half first: its magnitude by the table, and positive where the word is odd.
-pub fn sample_magnitude(bounds: &[u64], top: usize, low: u32, high: u32) -> Sampled
+pub(crate) fn sample_magnitude(bounds: &[u64], top: usize, low: u32, high: u32) -> Sampled
     requires { ⌜ T (cumulativeTable top (now bounds)) ⌝ }
     ensures { λ r. ⌜ (r .magnitude < 2 ^ 63)
         × (signed (r .positive) (r .magnitude) ≡ cumulativeValue top (now (bounds .entry)) (low + high * 2 ^ 32)) ⌝ }

@@ -70,7 +70,7 @@ pub fn sample_cdt_to_i64(
         return Answer { number: 12, place };
     }
     if (words.len() - place) / 2 < n {
-        store::clear_i64(output);
+        fill::clear_i64(output);
         return Answer { number: 23, place };
     }
     let top = maximum_magnitude as usize;
@@ -106,7 +106,7 @@ pub fn sample_cdt_to_u64(
         return Answer { number: 12, place };
     }
     if (words.len() - place) / 2 < n {
-        store::clear_u64(output);
+        fill::clear_u64(output);
         return Answer { number: 23, place };
     }
     let top = maximum_magnitude as usize;

@@ -36,30 +36,8 @@ fn encode_modular(positive: bool, magnitude: u64, modulus_minus_one: u64) -> u64
     modulus_minus_one - down
 }
 
-// The whole output becomes zero.
-pub fn clear_i64(output: &mut [i64])
-    ensures { λ _. ⌜ now (output .exit) ≡ replicate (length (now (output .entry))) (pos 0) ⌝ }
-{
-    let mut i: usize = 0;
-    while i < output.len() {
-        output[i] = 0;
-        i += 1;
-    }
-}
-
-// The same for residues.
-pub fn clear_u64(output: &mut [u64])
-    ensures { λ _. ⌜ now (output .exit) ≡ replicate (length (now (output .entry))) 0 ⌝ }
-{
-    let mut i: usize = 0;
-    while i < output.len() {
-        output[i] = 0;
-        i += 1;
-    }
-}
-
 // Each element by a 64-bit word. The caller has counted the words.
-pub fn fill_i64(output: &mut [i64], top: usize, bounds: &[u64], words: &[u32], place: usize)
+pub(crate) fn fill_i64(output: &mut [i64], top: usize, bounds: &[u64], words: &[u32], place: usize)
     requires { ⌜ T (cumulativeTable top (now bounds)) × (place + 2 * length (now output) ≤ length (now words)) ⌝ }
     ensures { λ _. ⌜ mapRead (map (cumulativeValue top (now (bounds .entry))))
         (many wide (length (now (output .entry))) (drop place (now (words .entry)))) ≡
@@ -77,7 +55,7 @@ pub fn fill_i64(output: &mut [i64], top: usize, bounds: &[u64], words: &[u32], p
 }
 
 // The same as residues, by the encoding of -1.
-pub fn fill_u64(
+pub(crate) fn fill_u64(
     output: &mut [u64],
     minus_one: u64,
     top: usize,

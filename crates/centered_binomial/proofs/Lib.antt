@@ -1,5 +1,4 @@
 pub mod Differences
 pub mod Samplers
 pub mod Values
-pub mod Clearing
 pub mod Numbers

@@ -72,7 +72,7 @@ impl CenteredBinomial {
             };
         }
         if number == 23 {
-            clear_i64(output);
+            fill::clear_i64(output);
         }
         Answer {
             number: number,
@@ -103,7 +103,7 @@ impl CenteredBinomial {
             };
         }
         if number == 23 {
-            clear_u64(output);
+            fill::clear_u64(output);
         }
         Answer {
             number: number,
@@ -208,30 +208,6 @@ fn fill_u64(eta: u32, mask: u64, output: &mut [u64], minus_one: u64, words: &[u3
     while i < n {
         let word = wide_at(words, place + 2 * i);
         output[i] = residue(ones_of(eta, mask, word), minus_one);
-        i += 1;
-    }
-}
-
-// Writes zeros over an output of signed coefficients.
-fn clear_i64(output: &mut [i64])
-    ensures { λ _. ⌜ now (output .exit) ≡ replicate (length (now (output .entry))) (pos 0) ⌝ }
-{
-    let n = output.len();
-    let mut i = 0;
-    while i < n {
-        output[i] = 0;
-        i += 1;
-    }
-}
-
-// Writes zeros over an output of residues.
-fn clear_u64(output: &mut [u64])
-    ensures { λ _. ⌜ now (output .exit) ≡ replicate (length (now (output .entry))) 0 ⌝ }
-{
-    let n = output.len();
-    let mut i = 0;
-    while i < n {
-        output[i] = 0;
         i += 1;
     }
 }

@@ -20,10 +20,10 @@ module _ {A : Type 0} (z : A) (out₀ : List A) where
       let zs : List A = replicate (length out₀) z in
       record {
         holds =
-          ap (λ (l : List A). set l i z) (s .holds)
-          ∙ ap (set (written zs i out₀) i) (sym (getD-replicate (length out₀) i z z h))
-          ∙ written-more zs out₀ i z (rw (length-replicate (length out₀) z) h) h
-          ∙ ap (λ (k : ℕ). written zs k out₀) (sym (add-one i));
+            ap (λ (l : List A). set l i z) (s .holds)
+            ∙ ap (set (written zs i out₀) i) (sym (getD-replicate (length out₀) i z z h))
+            ∙ written-more zs out₀ i z (rw (length-replicate (length out₀) z) h) h
+            ∙ ap (λ (k : ℕ). written zs k out₀) (sym (add-one i));
       }
 
   pub cleared-length : {i : ℕ} {out : List A} → i ≤ length out₀ → Cleared i out → length out ≡ length out₀

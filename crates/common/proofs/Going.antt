@@ -66,7 +66,7 @@ from-skip b left ws m h = rw (le-ltb b 243 h)
 
 from-byte : (b : ℕ) (left ws : List ℕ) (m : ℕ) → b < 243 → bytesFrom (b ∷ left) ws (suc m) ≡ mapRead (λ ds. b ∷ ds) (bytesFrom left ws m)
 unfolding accepted
-from-byte b left ws m h = 
+from-byte b left ws m h =
     rw (lt-ltb b 243 h)
     (ap (λ (k : ℕ). mapRead (λ rest. (b ∷ take m (accepted left)) ++ rest) (bytes ws k)) (suc-sub-suc m (length (accepted left)))
     ∙ sym (map-read (λ ds. b ∷ ds) (λ rest. take m (accepted left) ++ rest) (bytes ws (m - length (accepted left)))))
@@ -107,8 +107,8 @@ module _ {A : Type 0} (value : ℕ → A) (words : List ℕ) (place : ℕ) (out�
     sized = refl;
     within = omega arith;
     same =
-      ap (mapRead (finished 0 out₀)) (from-words (drop place words) (wanted (length out₀ - 0)))
-      ∙ ap (λ (k : ℕ). mapRead (λ ds. map value (take k (split 3 5 ds))) (bytes (drop place words) (wanted k))) (sub-zero (length out₀));
+        ap (mapRead (finished 0 out₀)) (from-words (drop place words) (wanted (length out₀ - 0)))
+        ∙ ap (λ (k : ℕ). mapRead (λ ds. map value (take k (split 3 5 ds))) (bytes (drop place words) (wanted k))) (sub-zero (length out₀));
   }
 
   -- a word is read
@@ -122,12 +122,12 @@ module _ {A : Type 0} (value : ℕ → A) (words : List ℕ) (place : ℕ) (out�
         sized = s .sized;
         within = s .within;
         same =
-          ap (mapRead (finished at out))
-          (ap₂ (λ (j k : ℕ). bytesFrom (digits 256 4 w) (drop j words) k) (add-one next) more
-          ∙ sym (from-next w (drop (suc next) words) m)
-          ∙ ap₂ (λ (ws : List ℕ) (k : ℕ). bytesFrom [] ws k) (sym (drop-cons words next 0 l)) (sym more)
-          ∙ ap (λ (ds : List ℕ). bytesFrom ds (drop next words) (wanted (length out₀ - at))) (sym (digits-none rest z)))
-          ∙ s .same;
+            ap (mapRead (finished at out))
+            (ap₂ (λ (j k : ℕ). bytesFrom (digits 256 4 w) (drop j words) k) (add-one next) more
+            ∙ sym (from-next w (drop (suc next) words) m)
+            ∙ ap₂ (λ (ws : List ℕ) (k : ℕ). bytesFrom [] ws k) (sym (drop-cons words next 0 l)) (sym more)
+            ∙ ap (λ (ds : List ℕ). bytesFrom ds (drop next words) (wanted (length out₀ - at))) (sym (digits-none rest z)))
+            ∙ s .same;
       }
 
   -- a byte is skipped
@@ -139,10 +139,10 @@ module _ {A : Type 0} (value : ℕ → A) (words : List ℕ) (place : ℕ) (out�
         sized = s .sized;
         within = s .within;
         same =
-          ap (mapRead (finished at out))
-          (sym (from-skip (rest % 256) (digits 256 (left - 1) (rest / 256)) (drop next words) m l)
-          ∙ ap (λ (ds : List ℕ). bytesFrom ds (drop next words) m) (sym (digits-more left rest h)))
-          ∙ s .same;
+            ap (mapRead (finished at out))
+            (sym (from-skip (rest % 256) (digits 256 (left - 1) (rest / 256)) (drop next words) m l)
+            ∙ ap (λ (ds : List ℕ). bytesFrom ds (drop next words) m) (sym (digits-more left rest h)))
+            ∙ s .same;
       }
 
   -- a byte's digits, or the first of them, are stored
@@ -162,23 +162,23 @@ module _ {A : Type 0} (value : ℕ → A) (words : List ℕ) (place : ℕ) (out�
       let left′ : List ℕ = digits 256 (left - 1) (rest / 256) in
       let r : ℕ = length out₀ - (at + count) in
       let stored : (ds : List ℕ) → finished (at + count) out′ ds ≡ finished at out (b ∷ ds) = λ ds.
-          ap (λ (x : List A). take (at + count) x ++ map value (take r (split 3 5 ds))) o
-          ∙ ap (λ (x : List A). x ++ map value (take r (split 3 5 ds))) (take-paste out at vs count here five)
-          ∙ append-assoc (take at out) (take count vs) (map value (take r (split 3 5 ds)))
-          ∙ ap (λ (x : List A). take at out ++ x)
-            (ap (λ (x : List A). x ++ map value (take r (split 3 5 ds))) (sym (map-take value count (digits 3 5 b)))
-            ∙ sym (map-append value (take count (digits 3 5 b)) (take r (split 3 5 ds)))
-            ∙ ap (map value) (sym (takes (split 3 5 ds)))) in
+      ap (λ (x : List A). take (at + count) x ++ map value (take r (split 3 5 ds))) o
+      ∙ ap (λ (x : List A). x ++ map value (take r (split 3 5 ds))) (take-paste out at vs count here five)
+      ∙ append-assoc (take at out) (take count vs) (map value (take r (split 3 5 ds)))
+      ∙ ap (λ (x : List A). take at out ++ x)
+      (ap (λ (x : List A). x ++ map value (take r (split 3 5 ds))) (sym (map-take value count (digits 3 5 b)))
+      ∙ sym (map-append value (take count (digits 3 5 b)) (take r (split 3 5 ds)))
+      ∙ ap (map value) (sym (takes (split 3 5 ds)))) in
       record {
         sized = ap length o ∙ length-paste out at vs count room five ∙ s .sized;
         within = l;
         same =
-          read-ext (finished (at + count) out′) (λ ds. finished at out (b ∷ ds)) stored (bytesFrom left′ ws (wanted r))
-          ∙ sym (map-read (finished at out) (λ ds. b ∷ ds) (bytesFrom left′ ws (wanted r)))
-          ∙ ap (mapRead (finished at out))
+            read-ext (finished (at + count) out′) (λ ds. finished at out (b ∷ ds)) stored (bytesFrom left′ ws (wanted r))
+            ∙ sym (map-read (finished at out) (λ ds. b ∷ ds) (bytesFrom left′ ws (wanted r)))
+            ∙ ap (mapRead (finished at out))
             (sym (from-byte b left′ ws (wanted r) m)
             ∙ ap₂ (λ (ds : List ℕ) (j : ℕ). bytesFrom ds ws j) (sym (digits-more left rest k)) (sym e))
-          ∙ s .same;
+            ∙ s .same;
       }
 
   -- all five, and the last ones

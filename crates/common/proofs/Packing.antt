@@ -95,11 +95,11 @@ module _ {A : Type 0} (base each : ℕ) (value : ℕ → A) (words : List ℕ) (
       let there : i < length ws = rw (length-drop place words) (omega arith) in
       record {
         holds =
-          f
-          ∙ ap₂ (λ (l : List A) (w : ℕ). paste l (i * each) (map value (digits base each w)) count) (s .holds) (sym (getD-drop place words i 0))
-          ∙ written-paste xs out₀ vs (i * each) count
+            f
+            ∙ ap₂ (λ (l : List A) (w : ℕ). paste l (i * each) (map value (digits base each w)) count) (s .holds) (sym (getD-drop place words i 0))
+            ∙ written-paste xs out₀ vs (i * each) count
             (rw (length-values base each value ws) (mul-le-mul-right each (le-of-lt there))) (next-values base each value ws i count there k)
-          ∙ ap (λ (j : ℕ). written xs j out₀) (sym e);
+            ∙ ap (λ (j : ℕ). written xs j out₀) (sym e);
       }
 
   pub filled-all : {p : ℕ} {out : List A} → p ≡ length out₀ → Filled p out → out ≡ map value (take (length out₀) (split base each (drop place words)))

@@ -25,7 +25,7 @@ left-more base each w k x h l =
     let ds : List ℕ = digits base each w in
     let e : each - k ≡ suc (each - suc k) = omega arith in
     let split : getD ds k 0 ∷ drop (suc k) ds ≡ x % base ∷ digits base (each - suc k) (x / base) =
-        sym (drop-cons ds k 0 (rw (length-digits base each w) h)) ∙ l ∙ ap (λ (n : ℕ). digits base n x) e in
+    sym (drop-cons ds k 0 (rw (length-digits base each w) h)) ∙ l ∙ ap (λ (n : ℕ). digits base n x) e in
     (cc, cc)
 
 module _ {A : Type 0} (base each : ℕ) (value : ℕ → A) (out₀ : List A) (at w : ℕ) where

@@ -10,7 +10,11 @@ ghost use Rattle.distr.specs.Packed.{uniformBinary};
 ghost use Rattle.distr.specs.Draw.{outcome, ruleDraw};
 
 // Uniform binary values: 32 bits a word, lowest first. A word more is read after the whole ones, also where no bit of it is used.
-pub fn sample_uniform_binary_values_to_i64(result: &mut [i64], words: &[u32], place: usize) -> Answer
+pub fn sample_uniform_binary_values_to_i64(
+    result: &mut [i64],
+    words: &[u32],
+    place: usize,
+) -> Answer
     ensures { λ r. ⌜ outcome r (now (result .exit)) ≡ ruleDraw (λ cs. cs) 0 (uniformBinary (length (now (result .entry)))) (now (words .entry)) place (now (result .entry)) ⌝ }
 {
     let n = result.len();
@@ -26,11 +30,18 @@ pub fn sample_uniform_binary_values_to_i64(result: &mut [i64], words: &[u32], pl
     }
     let table: [i64; 2] = [0, 1];
     packed::fill_bits_i64(result, &table, words, place);
-    Answer { number: 0, place: place + needed }
+    Answer {
+        number: 0,
+        place: place + needed,
+    }
 }
 
 // The same for unsigned output.
-pub fn sample_uniform_binary_values_to_u64(result: &mut [u64], words: &[u32], place: usize) -> Answer
+pub fn sample_uniform_binary_values_to_u64(
+    result: &mut [u64],
+    words: &[u32],
+    place: usize,
+) -> Answer
     ensures { λ r. ⌜ outcome r (now (result .exit)) ≡ ruleDraw (map natAbs) 0 (uniformBinary (length (now (result .entry)))) (now (words .entry)) place (now (result .entry)) ⌝ }
 {
     let n = result.len();
@@ -46,5 +57,8 @@ pub fn sample_uniform_binary_values_to_u64(result: &mut [u64], words: &[u32], pl
     }
     let table: [u64; 2] = [0, 1];
     packed::fill_bits_u64(result, &table, words, place);
-    Answer { number: 0, place: place + needed }
+    Answer {
+        number: 0,
+        place: place + needed,
+    }
 }

@@ -32,7 +32,12 @@ fn store_trits_i64(out: &mut [i64], at: usize, count: usize, table: &[i64; 3], b
 
 // Fills the output with the table's entries of the trits from `place` on. `rest` is what is left of the word read last, in
 // `left` bytes. Where a word is missing the output holds what was written before.
-pub fn fill_trits_i64(out: &mut [i64], table: &[i64; 3], words: &[u32], place: usize) -> Reached
+pub(crate) fn fill_trits_i64(
+    out: &mut [i64],
+    table: &[i64; 3],
+    words: &[u32],
+    place: usize,
+) -> Reached
     requires { ⌜ place ≤ length (now words) ⌝ }
     ensures { λ r. ⌜ (r .place ≤ length (now (words .entry))) × (reading r (now (out .exit)) (now (words .entry)) ≡ mapRead (λ ds. entries (now (table .entry)) (pos 0) (take (length (now (out .entry))) (split 3 5 ds))) (bytes (drop place (now (words .entry))) ((length (now (out .entry)) + 4) / 5))) ⌝ }
 {
@@ -45,7 +50,10 @@ pub fn fill_trits_i64(out: &mut [i64], table: &[i64; 3], words: &[u32], place: u
     while at < n {
         if left == 0 {
             if next == count {
-                return Reached { found: false, place };
+                return Reached {
+                    found: false,
+                    place,
+                };
             }
             rest = words[next];
             next += 1;
@@ -65,7 +73,10 @@ pub fn fill_trits_i64(out: &mut [i64], table: &[i64; 3], words: &[u32], place: u
             }
         }
     }
-    Reached { found: true, place: next }
+    Reached {
+        found: true,
+        place: next,
+    }
 }
 
 // One byte's lowest trits, `count` of them: the table's entries, from `at` on.
@@ -84,7 +95,12 @@ fn store_trits_u64(out: &mut [u64], at: usize, count: usize, table: &[u64; 3], b
 
 // Fills the output with the table's entries of the trits from `place` on. `rest` is what is left of the word read last, in
 // `left` bytes. Where a word is missing the output holds what was written before.
-pub fn fill_trits_u64(out: &mut [u64], table: &[u64; 3], words: &[u32], place: usize) -> Reached
+pub(crate) fn fill_trits_u64(
+    out: &mut [u64],
+    table: &[u64; 3],
+    words: &[u32],
+    place: usize,
+) -> Reached
     requires { ⌜ place ≤ length (now words) ⌝ }
     ensures { λ r. ⌜ (r .place ≤ length (now (words .entry))) × (reading r (now (out .exit)) (now (words .entry)) ≡ mapRead (λ ds. entries (now (table .entry)) 0 (take (length (now (out .entry))) (split 3 5 ds))) (bytes (drop place (now (words .entry))) ((length (now (out .entry)) + 4) / 5))) ⌝ }
 {
@@ -97,7 +113,10 @@ pub fn fill_trits_u64(out: &mut [u64], table: &[u64; 3], words: &[u32], place: u
     while at < n {
         if left == 0 {
             if next == count {
-                return Reached { found: false, place };
+                return Reached {
+                    found: false,
+                    place,
+                };
             }
             rest = words[next];
             next += 1;
@@ -117,5 +136,8 @@ pub fn fill_trits_u64(out: &mut [u64], table: &[u64; 3], words: &[u32], place: u
             }
         }
     }
-    Reached { found: true, place: next }
+    Reached {
+        found: true,
+        place: next,
+    }
 }

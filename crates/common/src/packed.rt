@@ -23,7 +23,7 @@ fn store_bits_i64(out: &mut [i64], at: usize, count: usize, table: &[i64; 2], wo
 }
 
 // Fills the output with the table's entries of the bits from `place` on. The words are enough.
-pub fn fill_bits_i64(out: &mut [i64], table: &[i64; 2], words: &[u32], place: usize)
+pub(crate) fn fill_bits_i64(out: &mut [i64], table: &[i64; 2], words: &[u32], place: usize)
     requires { ⌜ place + (length (now out) + 31) / 32 ≤ length (now words) ⌝ }
     ensures { λ r. ⌜ now (out .exit) ≡ entries (now (table .entry)) (pos 0) (take (length (now (out .entry))) (split 2 32 (drop place (now (words .entry))))) ⌝ }
 {
@@ -57,7 +57,7 @@ fn store_bits_u64(out: &mut [u64], at: usize, count: usize, table: &[u64; 2], wo
 }
 
 // Fills the output with the table's entries of the bits from `place` on. The words are enough.
-pub fn fill_bits_u64(out: &mut [u64], table: &[u64; 2], words: &[u32], place: usize)
+pub(crate) fn fill_bits_u64(out: &mut [u64], table: &[u64; 2], words: &[u32], place: usize)
     requires { ⌜ place + (length (now out) + 31) / 32 ≤ length (now words) ⌝ }
     ensures { λ r. ⌜ now (out .exit) ≡ entries (now (table .entry)) 0 (take (length (now (out .entry))) (split 2 32 (drop place (now (words .entry))))) ⌝ }
 {
@@ -91,7 +91,7 @@ fn store_pairs_i64(out: &mut [i64], at: usize, count: usize, table: &[i64; 4], w
 }
 
 // Fills the output with the table's entries of the two-bit groups from `place` on. The words are enough.
-pub fn fill_pairs_i64(out: &mut [i64], table: &[i64; 4], words: &[u32], place: usize)
+pub(crate) fn fill_pairs_i64(out: &mut [i64], table: &[i64; 4], words: &[u32], place: usize)
     requires { ⌜ place + (length (now out) + 15) / 16 ≤ length (now words) ⌝ }
     ensures { λ r. ⌜ now (out .exit) ≡ entries (now (table .entry)) (pos 0) (take (length (now (out .entry))) (split 4 16 (drop place (now (words .entry))))) ⌝ }
 {
@@ -125,7 +125,7 @@ fn store_pairs_u64(out: &mut [u64], at: usize, count: usize, table: &[u64; 4], w
 }
 
 // Fills the output with the table's entries of the two-bit groups from `place` on. The words are enough.
-pub fn fill_pairs_u64(out: &mut [u64], table: &[u64; 4], words: &[u32], place: usize)
+pub(crate) fn fill_pairs_u64(out: &mut [u64], table: &[u64; 4], words: &[u32], place: usize)
     requires { ⌜ place + (length (now out) + 15) / 16 ≤ length (now words) ⌝ }
     ensures { λ r. ⌜ now (out .exit) ≡ entries (now (table .entry)) 0 (take (length (now (out .entry))) (split 4 16 (drop place (now (words .entry))))) ⌝ }
 {

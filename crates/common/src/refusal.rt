@@ -6,7 +6,7 @@ ghost use lib.IntN.{pos};
 ghost use Rattle.distr.specs.Numbers.{firstOf, pastEnd, tooLong};
 
 // The number of a draw of n coefficients from `place` in `count` words: 22 past the end of the words, 6 too long, 0 good.
-pub fn early_number(count: usize, place: usize, n: usize) -> u32
+pub(crate) fn early_number(count: usize, place: usize, n: usize) -> u32
     ensures { λ r. ⌜ r ≡ firstOf (pastEnd count place ∷ tooLong n ∷ 0 ∷ []) ⌝ }
 {
     if count < place {
@@ -19,7 +19,7 @@ pub fn early_number(count: usize, place: usize, n: usize) -> u32
 }
 
 // Writes zeros over the output, which a draw that lacks a word leaves.
-pub fn clear_i64(out: &mut [i64])
+pub(crate) fn clear_i64(out: &mut [i64])
     ensures { λ r. ⌜ now (out .exit) ≡ replicate (length (now (out .entry))) (pos 0) ⌝ }
 {
     let n = out.len();
@@ -31,7 +31,7 @@ pub fn clear_i64(out: &mut [i64])
 }
 
 // The same for unsigned output.
-pub fn clear_u64(out: &mut [u64])
+pub(crate) fn clear_u64(out: &mut [u64])
     ensures { λ r. ⌜ now (out .exit) ≡ replicate (length (now (out .entry))) 0 ⌝ }
 {
     let n = out.len();

@@ -12,7 +12,12 @@ ghost use Rattle.distr.specs.Encoding.{encodeWith, signedWith};
 ghost use Rattle.distr.specs.Draw.{outcome, ruleDraw};
 
 // Sparse ternary values: 16 two-bit groups a word, lowest first, standing for 0, 0, 1 and −1.
-pub fn sample_sparse_ternary_values_to_i64(result: &mut [i64], minus_one: i64, words: &[u32], place: usize) -> Answer
+pub fn sample_sparse_ternary_values_to_i64(
+    result: &mut [i64],
+    minus_one: i64,
+    words: &[u32],
+    place: usize,
+) -> Answer
     ensures { λ r. ⌜ outcome r (now (result .exit)) ≡ ruleDraw (map (signedWith «minus_one»)) 0 (sparseTernary (length (now (result .entry)))) (now (words .entry)) place (now (result .entry)) ⌝ }
 {
     let n = result.len();
@@ -28,11 +33,19 @@ pub fn sample_sparse_ternary_values_to_i64(result: &mut [i64], minus_one: i64, w
     }
     let table: [i64; 4] = [0, 0, 1, minus_one];
     packed::fill_pairs_i64(result, &table, words, place);
-    Answer { number: 0, place: place + needed }
+    Answer {
+        number: 0,
+        place: place + needed,
+    }
 }
 
 // The same for unsigned output.
-pub fn sample_sparse_ternary_values_to_u64(result: &mut [u64], minus_one: u64, words: &[u32], place: usize) -> Answer
+pub fn sample_sparse_ternary_values_to_u64(
+    result: &mut [u64],
+    minus_one: u64,
+    words: &[u32],
+    place: usize,
+) -> Answer
     ensures { λ r. ⌜ outcome r (now (result .exit)) ≡ ruleDraw (map (encodeWith «minus_one»)) 0 (sparseTernary (length (now (result .entry)))) (now (words .entry)) place (now (result .entry)) ⌝ }
 {
     let n = result.len();
@@ -48,11 +61,19 @@ pub fn sample_sparse_ternary_values_to_u64(result: &mut [u64], minus_one: u64, w
     }
     let table: [u64; 4] = [0, 0, 1, minus_one];
     packed::fill_pairs_u64(result, &table, words, place);
-    Answer { number: 0, place: place + needed }
+    Answer {
+        number: 0,
+        place: place + needed,
+    }
 }
 
 // Uniform ternary values: a byte below 243 holds five base-3 digits, lowest first, standing for −1, 0 and 1; others are skipped.
-pub fn sample_uniform_ternary_values_to_i64(result: &mut [i64], minus_one: i64, words: &[u32], place: usize) -> Answer
+pub fn sample_uniform_ternary_values_to_i64(
+    result: &mut [i64],
+    minus_one: i64,
+    words: &[u32],
+    place: usize,
+) -> Answer
     ensures { λ r. ⌜ outcome r (now (result .exit)) ≡ ruleDraw (map (signedWith «minus_one»)) 0 (uniformTernary (length (now (result .entry)))) (now (words .entry)) place (now (result .entry)) ⌝ }
 {
     let number = refusal::early_number(words.len(), place, result.len());
@@ -62,14 +83,22 @@ pub fn sample_uniform_ternary_values_to_i64(result: &mut [i64], minus_one: i64, 
     let table: [i64; 3] = [minus_one, 0, 1];
     let reached = bytes::fill_trits_i64(result, &table, words, place);
     if reached.found {
-        return Answer { number: 0, place: reached.place };
+        return Answer {
+            number: 0,
+            place: reached.place,
+        };
     }
     refusal::clear_i64(result);
     Answer { number: 23, place }
 }
 
 // The same for unsigned output.
-pub fn sample_uniform_ternary_values_to_u64(result: &mut [u64], minus_one: u64, words: &[u32], place: usize) -> Answer
+pub fn sample_uniform_ternary_values_to_u64(
+    result: &mut [u64],
+    minus_one: u64,
+    words: &[u32],
+    place: usize,
+) -> Answer
     ensures { λ r. ⌜ outcome r (now (result .exit)) ≡ ruleDraw (map (encodeWith «minus_one»)) 0 (uniformTernary (length (now (result .entry)))) (now (words .entry)) place (now (result .entry)) ⌝ }
 {
     let number = refusal::early_number(words.len(), place, result.len());
@@ -79,14 +108,22 @@ pub fn sample_uniform_ternary_values_to_u64(result: &mut [u64], minus_one: u64, 
     let table: [u64; 3] = [minus_one, 0, 1];
     let reached = bytes::fill_trits_u64(result, &table, words, place);
     if reached.found {
-        return Answer { number: 0, place: reached.place };
+        return Answer {
+            number: 0,
+            place: reached.place,
+        };
     }
     refusal::clear_u64(result);
     Answer { number: 23, place }
 }
 
 // Signs alone, for a key without a 0: 32 bits a word, lowest first, 1 for 1 and 0 for −1.
-pub fn sample_signs_to_i64(result: &mut [i64], minus_one: i64, words: &[u32], place: usize) -> Answer
+pub fn sample_signs_to_i64(
+    result: &mut [i64],
+    minus_one: i64,
+    words: &[u32],
+    place: usize,
+) -> Answer
     ensures { λ r. ⌜ outcome r (now (result .exit)) ≡ ruleDraw (map (signedWith «minus_one»)) 0 (signsAlone (length (now (result .entry)))) (now (words .entry)) place (now (result .entry)) ⌝ }
 {
     let n = result.len();
@@ -102,11 +139,19 @@ pub fn sample_signs_to_i64(result: &mut [i64], minus_one: i64, words: &[u32], pl
     }
     let table: [i64; 2] = [minus_one, 1];
     packed::fill_bits_i64(result, &table, words, place);
-    Answer { number: 0, place: place + needed }
+    Answer {
+        number: 0,
+        place: place + needed,
+    }
 }
 
 // The same for unsigned output.
-pub fn sample_signs_to_u64(result: &mut [u64], minus_one: u64, words: &[u32], place: usize) -> Answer
+pub fn sample_signs_to_u64(
+    result: &mut [u64],
+    minus_one: u64,
+    words: &[u32],
+    place: usize,
+) -> Answer
     ensures { λ r. ⌜ outcome r (now (result .exit)) ≡ ruleDraw (map (encodeWith «minus_one»)) 0 (signsAlone (length (now (result .entry)))) (now (words .entry)) place (now (result .entry)) ⌝ }
 {
     let n = result.len();
@@ -122,5 +167,8 @@ pub fn sample_signs_to_u64(result: &mut [u64], minus_one: u64, words: &[u32], pl
     }
     let table: [u64; 2] = [minus_one, 1];
     packed::fill_bits_u64(result, &table, words, place);
-    Answer { number: 0, place: place + needed }
+    Answer {
+        number: 0,
+        place: place + needed,
+    }
 }

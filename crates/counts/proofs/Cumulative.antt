@@ -13,6 +13,7 @@ use lib.ListN.{length, getD}
 use lib.Ieee.Fits.{and-i, and-l, and-r, eq→eqb}
 use lib.IntN.{ℤ, pos, negsuc}
 use Rattle.distr.specs.Gaussian.{neverFalls, rising, cumulativeTable, magnitude, signed, cumulativeValue, cumulative}
+use Rattle.distr.proofs.Rising.{Rising, is-rising, rises, Largest, largest}
 use Rattle.counts.specs.Inside.{same, within, listOf}
 use Rattle.counts.specs.Formula.{productOf, cumulativeWays}
 use Rattle.counts.specs.Demand3.{Counted}
@@ -73,80 +74,7 @@ sum-even (suc b) = ap (λ (x : ℕ). x + bit (not (eqb (b % 2) 1))) (sum-even b)
     go true e = omega (arith, eqb-true (b % 2) 1 e)
     go false e = omega (arith, eqb-false (b % 2) 1 e)
 
--- ---- a list that never falls
-
-head-le : (a : ℕ) (xs : List ℕ) → T (neverFalls (a ∷ xs)) → 0 < length xs → a ≤ getD xs 0 0
-unfolding neverFalls
-head-le a [] t h = absurd (not-suc-le-zero h)
-head-le a (b ∷ xs) t h = leb→le a b (and-l (leb a b) (neverFalls (b ∷ xs)) t)
-
-tail-never-falls : (a : ℕ) (xs : List ℕ) → T (neverFalls (a ∷ xs)) → T (neverFalls xs)
-unfolding neverFalls
-tail-never-falls a [] t = tt
-tail-never-falls a (b ∷ xs) t = and-r (leb a b) (neverFalls (b ∷ xs)) t
-
-rises : (xs : List ℕ) → T (neverFalls xs) → (i j : ℕ) → i ≤ j → j < length xs → getD xs i 0 ≤ getD xs j 0
-rises [] t i j h k = absurd (not-suc-le-zero k)
-rises (a ∷ xs) t zero zero h k = le-refl a
-rises (a ∷ xs) t zero (suc j) h k =
-    le-trans (head-le a xs t (omega arith)) (rises xs (tail-never-falls a xs t) zero j zero-le (le-of-suc-le-suc k))
-rises (a ∷ xs) t (suc i) zero h k = absurd (not-suc-le-zero h)
-rises (a ∷ xs) t (suc i) (suc j) h k = rises xs (tail-never-falls a xs t) i j (le-of-suc-le-suc h) (le-of-suc-le-suc k)
-
--- what the test of a table says
-record Rising (count last : ℕ) (xs : List ℕ) : Type 0 where
-  long : length xs ≡ count
-  first : getD xs 0 0 ≡ 0
-  final : getD xs (count - 1) 0 ≡ last
-  never-falls : T (neverFalls xs)
-
-is-rising : (count last : ℕ) (xs : List ℕ) → T (rising count last xs) → Rising count last xs
-is-rising count last xs t = record {
-  long = eqb→eq (length xs) count (and-l long first (and-l (long && first) final three));
-  first = start xs (eqb→eq (getD xs 0 1) 0 (and-r long first (and-l (long && first) final three)));
-  final = eqb→eq (getD xs (count - 1) 0) last (and-r (long && first) final three);
-  never-falls = and-r (long && first && final) (neverFalls xs) t;
-}
-  where
-    long : Bool
-    long = eqb (length xs) count
-
-    first : Bool
-    first = eqb (getD xs 0 1) 0
-
-    final : Bool
-    final = eqb (getD xs (count - 1) 0) last
-
-    three : T (long && first && final)
-    three = and-l (long && first && final) (neverFalls xs) t
-
-    start : (ys : List ℕ) → getD ys 0 1 ≡ 0 → getD ys 0 0 ≡ 0
-    start [] e = refl
-    start (y ∷ ys) e = e
-
 -- ---- the magnitude of a word
-
--- m is the largest index up to k whose bound is at most w
-record Largest (bounds : List ℕ) (k w m : ℕ) : Type 0 where
-  top : m ≤ k
-  reached : getD bounds m 0 ≤ w
-  above : (j : ℕ) → m < j → j ≤ k → w < getD bounds j 0
-
-largest : (bounds : List ℕ) (k w : ℕ) → getD bounds 0 0 ≤ w → Largest bounds k w (magnitude bounds k w)
-unfolding magnitude
-largest bounds zero w h = record { top = le-refl 0; reached = h; above = λ j l u. absurd (omega arith) }
-largest bounds (suc k) w h = go (leb (getD bounds (suc k) 0) w) refl (largest bounds k w h)
-  where
-    go : (t : Bool) → leb (getD bounds (suc k) 0) w ≡ t → Largest bounds k w (magnitude bounds k w)
-        → Largest bounds (suc k) w (cond t (suc k) (magnitude bounds k w))
-    go true e x = record { top = le-refl (suc k); reached = leb-true (getD bounds (suc k) 0) w e; above = λ j l u. absurd (omega arith) }
-    go false e x = record {
-      top = le-step (x .top);
-      reached = x .reached;
-      above = λ j l u.
-          ⊎-elim (λ p. subst (λ (i : ℕ). w < getD bounds i 0) (sym p) (leb-false (getD bounds (suc k) 0) w e)) (λ p. x .above j l (le-of-suc-le-suc p))
-          (eq-or-lt-of-le u);
-    }
 
 -- two tests that say the same
 same-test : (a b : Bool) → (T a → T b) → (T b → T a) → a ≡ b

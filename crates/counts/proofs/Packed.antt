@@ -20,7 +20,7 @@ use Rattle.counts.specs.Demand3.{inBox, Carries, Counted}
 use Rattle.distr.proofs.Reading.{many-word}
 use Rattle.counts.proofs.Sums.{sum}
 use Rattle.counts.proofs.Exact.{counted}
-use Rattle.counts.proofs.Products.{ways, map-law, product-tally}
+use Rattle.counts.proofs.Products.{ways, map-law, product-tally, product-ones}
 use Rattle.counts.proofs.WideWords.{counted-as}
 
 -- ---- boxes joined and taken apart
@@ -204,12 +204,6 @@ module _ (base each : ℕ) where
         counted (packed base each m n value) (λ cs. listOf n ok cs) (λ cs. productOf w cs) (map-law n base value ok w h) packed-carried packed-boxed
 
 -- ---- the three rules
-
--- a product of ones
-pub product-ones : (cs : List ℤ) → productOf (λ c. 1) cs ≡ 1
-unfolding productOf
-product-ones [] = refl
-product-ones (c ∷ cs) = rw (product-ones cs)
 
 bit-ways : (c : ℤ) → ways 2 pos c ≡ cond (isBit c) 1 0
 unfolding sum

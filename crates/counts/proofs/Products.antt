@@ -90,3 +90,9 @@ product-tally v k (c ∷ cs) = go (same v c) (product-tally v k cs)
         → cond b k 1 * productOf (λ x. cond (same v x) k 1) cs ≡ k ^ (cond b 1 0 + tally v cs)
     go true e = ap (λ (x : ℕ). k * x) e ∙ sym (pow-succ' k (tally v cs)) ∙ ap (λ (x : ℕ). k ^ x) (sym (one-add (tally v cs)))
     go false e = one-mul (productOf (λ x. cond (same v x) k 1) cs) ∙ e ∙ ap (λ (x : ℕ). k ^ x) (sym (zero-add (tally v cs)))
+
+-- a product of ones
+pub product-ones : (cs : List ℤ) → productOf (λ c. 1) cs ≡ 1
+unfolding productOf
+product-ones [] = refl
+product-ones (c ∷ cs) = rw (product-ones cs)

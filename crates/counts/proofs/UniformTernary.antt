@@ -20,10 +20,9 @@ use Rattle.counts.specs.Inside.{within, listOf}
 use Rattle.counts.specs.Formula.{productOf}
 use Rattle.counts.specs.Demand3.{inBox, Carries, Counted}
 use Rattle.counts.proofs.Sums.{bit, sum, cnt, sameList, sum-ext, sum-swap, sum-product, sum-mul-left, sum-const, cnt-append, inBox-cons}
-use Rattle.counts.proofs.Products.{ways, map-law}
+use Rattle.counts.proofs.Products.{ways, map-law, product-ones}
 use Rattle.counts.proofs.Exact.{counted}
 use Rattle.counts.proofs.Choices.{box-cons, never-got}
-use Rattle.counts.proofs.Packed.{product-ones}
 
 -- the digits of the numbers below b^c are all lists of c digits, each once
 pub digits-law : (b c : ℕ) (f : List ℕ → ℕ) → sum (b ^ c) (λ d. f (digits b c d)) ≡ cnt (replicate c b) f

@@ -9,7 +9,7 @@ use lib.Dec.{T, leb, ltb, leb·zero, leb·suc-zero, leb·suc-suc, leb→le, ltb�
 use borrow.Author.Tests.{ltb-true, le-ltb, lt-leb}
 use lib.ListN.{length, getD, take, drop, drop-of-length-le}
 use lib.Seq.{drop-cons, getD-drop}
-use Rattle.distr.specs.Words.{got, short, mapRead, bindRead, areWords, word, wide, choose, many}
+use Rattle.distr.specs.Words.{Read, got, short, mapRead, bindRead, areWords, word, wide, choose, many}
 
 -- a reading that is there or not, changed by f
 map-cond : {A B : Type 0} (f : A → B) (b : Bool) (a : A) (rest : List ℕ) → mapRead f (cond b (got a rest) short) ≡ cond b (got (f a) rest) short
@@ -136,3 +136,14 @@ choose-skip k i ws h t = rw (drop-cons ws i 0 h, le-ltb (getD ws i 0) (k * (2 ^ 
 pub choose-end : (k i : ℕ) (ws : List ℕ) → length ws ≤ i → choose k (drop i ws) ≡ short
 unfolding choose
 choose-end k i ws h = rw (drop-of-length-le ws {i = i} h)
+
+-- a reading changed twice
+pub map-read-twice : {A B C : Type 0} (g : B → C) (f : A → B) (r : Read A) → mapRead g (mapRead f r) ≡ mapRead (λ a. g (f a)) r
+unfolding mapRead
+map-read-twice g f (got a rest) = refl
+map-read-twice g f short = refl
+
+pub map-read-same : {A B : Type 0} (f g : A → B) → ((a : A) → f a ≡ g a) → (r : Read A) → mapRead f r ≡ mapRead g r
+unfolding mapRead
+map-read-same f g h (got a rest) = ap (λ b. got b rest) (h a)
+map-read-same f g h short = refl

@@ -70,3 +70,8 @@ signedWith-minus-one cs = map-ext (signedWith (negsuc 0)) (λ c. c) same cs ∙ 
     same (pos m) = refl
     same (negsuc zero) = refl
     same (negsuc (suc m)) = ap (λ k. negsuc (suc k)) (zero-add m)
+
+pub map-set : {A B : Type 0} (f : A → B) (xs : List A) (i : ℕ) (a : A) → map f (set xs i a) ≡ set (map f xs) i (f a)
+map-set f [] i a = refl
+map-set f (x ∷ xs) zero a = refl
+map-set f (x ∷ xs) (suc i) a = ap (λ t. f x ∷ t) (map-set f xs i a)

@@ -1,5 +1,5 @@
 -- Laws of the draws by thresholds.
-pub mod Picking
+pub mod Slots
 pub mod Drawn
 pub mod Sampling
 pub mod Values

@@ -27,7 +27,7 @@ pub fn fill_binary_i64(
         return Answer { number: 6, place };
     }
     if threshold.full {
-        ends::fill_i64(output, 1);
+        fill::fill_i64(output, 1);
         return Answer { number: 0, place };
     }
     let values: [i64; 3] = [0, 1, 0];
@@ -51,7 +51,7 @@ pub fn fill_binary_u64(
         return Answer { number: 6, place };
     }
     if threshold.full {
-        ends::fill_u64(output, 1);
+        fill::fill_u64(output, 1);
         return Answer { number: 0, place };
     }
     let values: [u64; 3] = [0, 1, 0];

@@ -16,17 +16,6 @@ fn slot(low: u32, high: u32, first_end: u64, second_end: u64) -> usize
     (word >= first_end) as usize + (word >= second_end) as usize
 }
 
-// The whole output becomes one value.
-pub fn fill_i64(output: &mut [i64], value: i64)
-    ensures { λ _. ⌜ now (output .exit) ≡ replicate (length (now (output .entry))) value ⌝ }
-{
-    let mut i: usize = 0;
-    while i < output.len() {
-        output[i] = value;
-        i += 1;
-    }
-}
-
 // Each element is taken from the table by a 64-bit word: at the number of ends that are not above it.
 // The words are there, so nothing is tested on the way, and no branch depends on them.
 fn pick_i64(
@@ -52,7 +41,7 @@ fn pick_i64(
 }
 
 // Draws every element by a 64-bit word. The words are counted first: too few of them give 23 and zeros.
-pub fn draw_i64(
+pub(crate) fn draw_i64(
     output: &mut [i64],
     values: &[i64; 3],
     first_end: u64,
@@ -66,24 +55,13 @@ pub fn draw_i64(
 {
     let n = output.len();
     if (words.len() - place) / 2 < n {
-        fill_i64(output, 0);
+        fill::fill_i64(output, 0);
         return Answer { number: 23, place };
     }
     pick_i64(output, values, first_end, second_end, words, place);
     Answer {
         number: 0,
         place: place + 2 * n,
-    }
-}
-
-// The whole output becomes one value.
-pub fn fill_u64(output: &mut [u64], value: u64)
-    ensures { λ _. ⌜ now (output .exit) ≡ replicate (length (now (output .entry))) value ⌝ }
-{
-    let mut i: usize = 0;
-    while i < output.len() {
-        output[i] = value;
-        i += 1;
     }
 }
 
@@ -112,7 +90,7 @@ fn pick_u64(
 }
 
 // Draws every element by a 64-bit word. The words are counted first: too few of them give 23 and zeros.
-pub fn draw_u64(
+pub(crate) fn draw_u64(
     output: &mut [u64],
     values: &[u64; 3],
     first_end: u64,
@@ -126,7 +104,7 @@ pub fn draw_u64(
 {
     let n = output.len();
     if (words.len() - place) / 2 < n {
-        fill_u64(output, 0);
+        fill::fill_u64(output, 0);
         return Answer { number: 23, place };
     }
     pick_u64(output, values, first_end, second_end, words, place);

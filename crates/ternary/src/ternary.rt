@@ -92,7 +92,7 @@ impl TernarySampler {
         }
         match self {
             TernarySampler::Constant(value) => {
-                ends::fill_i64(output, encoded_i64(value, minus_one));
+                fill::fill_i64(output, encoded_i64(value, minus_one));
                 Answer { number: 0, place }
             }
             TernarySampler::Nonzero { negative_end } => {
@@ -128,7 +128,7 @@ impl TernarySampler {
         }
         match self {
             TernarySampler::Constant(value) => {
-                ends::fill_u64(output, encoded_u64(value, minus_one));
+                fill::fill_u64(output, encoded_u64(value, minus_one));
                 Answer { number: 0, place }
             }
             TernarySampler::Nonzero { negative_end } => {

@@ -7,7 +7,7 @@ use mir.Facts.{toZ-ofZ}
 use Rattle.distr.specs.Gaussian.{cumulativeValue}
 use Rattle.distr.proofs.Writing.{written}
 use Rattle.cdt.proofs.Signing.{signed-fits}
-use Rattle.cdt.proofs.Picking.{elements, pick-more, pick-all}
+use Rattle.distr.proofs.Picking.{elements, pick-more, pick-all}
 use Rattle.cdt.proofs.store.fill_i64.Statement.{statement}
 use Rattle.cdt.proofs.store.fill_i64.Tie as tie
 

@@ -6,7 +6,7 @@ use lib.ListN.{length, length-set}
 use Rattle.distr.specs.Encoding.{encodeWith}
 use Rattle.distr.specs.Gaussian.{cumulativeValue}
 use Rattle.distr.proofs.Writing.{written}
-use Rattle.cdt.proofs.Picking.{elements, pick-more, pick-all}
+use Rattle.distr.proofs.Picking.{elements, pick-more, pick-all}
 use Rattle.cdt.proofs.store.fill_u64.Statement.{statement}
 use Rattle.cdt.proofs.store.fill_u64.Tie as tie
 

@@ -23,9 +23,10 @@ same-length c = c .before .before .before .loop .inv .1 .sized
 
 returns : tie.Need-returns Inv-loop μ-loop
 returns c =
-    let at = c .before .before .before in
-    (at .before .before .before .pre,
-     going-short _ _ _ _ (c .before .before .loop-test .taken) (c .before .if1 .taken) (le-of-eq (sym (c .if2 .taken))) (at .loop .inv .1))
+    let at = c .before .before .before in (
+      at .before .before .before .pre,
+      going-short _ _ _ _ (c .before .before .loop-test .taken) (c .before .if1 .taken) (le-of-eq (sym (c .if2 .taken))) (at .loop .inv .1),
+    )
 
 mul-rest : tie.Need-mul-rest Inv-loop μ-loop
 mul-rest c = omega arith
@@ -40,9 +41,10 @@ loop-less : tie.Need-loop-less Inv-loop μ-loop
 loop-less c = omega arith
 
 loop-again : tie.Need-loop-again Inv-loop μ-loop
-loop-again c =
-    (omega arith,
-     going-word _ _ _ _ (c .before .before .before .loop-test .taken) (c .before .before .if1 .taken) (omega arith) (c .before .before .before .before .loop .inv .1))
+loop-again c = (
+  omega arith,
+  going-word _ _ _ _ (c .before .before .before .loop-test .taken) (c .before .before .if1 .taken) (omega arith) (c .before .before .before .before .loop .inv .1),
+)
 
 sub-left : tie.Need-sub-left Inv-loop μ-loop
 sub-left c = omega arith

@@ -41,9 +41,11 @@ loop-less c = omega arith
 loop-again : tie.Need-loop-again Inv-loop μ-loop
 loop-again c =
     let called = c .before .before in
-    let loop = called .before .before .before .before .loop in
-    (omega arith, called .store-pairs-u64 .kept .0 ∙ loop .inv .1,
-     filled-more 4 16 _ _ _ _ (loop .i) 16 (omega arith) (omega arith) (omega arith) (loop .inv .2) (called .store-pairs-u64 .ensures))
+    let loop = called .before .before .before .before .loop in (
+      omega arith,
+      called .store-pairs-u64 .kept .0 ∙ loop .inv .1,
+      filled-more 4 16 _ _ _ _ (loop .i) 16 (omega arith) (omega arith) (omega arith) (loop .inv .2) (called .store-pairs-u64 .ensures),
+    )
 
 mul-at : tie.Need-mul-at Inv-loop μ-loop
 mul-at c = omega arith

@@ -9,7 +9,8 @@ use mir.Facts.{toZ-ofZ}
 use borrow.Author.Needs.{sfits-of}
 use Rattle.distr.proofs.Writing.{written}
 use Rattle.ternary.specs.Picked.{picked}
-use Rattle.ternary.proofs.Picking.{slot-below, elements, pick-more, pick-all}
+use Rattle.distr.proofs.Picking.{elements, pick-more, pick-all}
+use Rattle.ternary.proofs.Slots.{slot-below}
 use Rattle.ternary.proofs.ends.pick_i64.Statement.{statement}
 use Rattle.ternary.proofs.ends.pick_i64.Tie as tie
 

@@ -5,7 +5,8 @@ use native.Mathlib.Omega.{arith}
 use lib.ListN.{length, getD, length-set}
 use Rattle.distr.proofs.Writing.{written}
 use Rattle.ternary.specs.Picked.{picked}
-use Rattle.ternary.proofs.Picking.{slot-below, elements, pick-more, pick-all}
+use Rattle.distr.proofs.Picking.{elements, pick-more, pick-all}
+use Rattle.ternary.proofs.Slots.{slot-below}
 use Rattle.ternary.proofs.ends.pick_u64.Statement.{statement}
 use Rattle.ternary.proofs.ends.pick_u64.Tie as tie
 

@@ -4,7 +4,7 @@ use mathlib.Core.Path.{refl}
 use Prim.Native.Nat.{_+_, _*_, _^_}
 use native.Mathlib.Omega.{arith}
 use Rattle.ternary.specs.Picked.{slotOf}
-use Rattle.ternary.proofs.Picking.{slot-below}
+use Rattle.ternary.proofs.Slots.{slot-below}
 use Rattle.ternary.proofs.ends.slot.Statement.{statement}
 use Rattle.ternary.proofs.ends.slot.Tie as tie
 

@@ -1,4 +1,4 @@
--- `ends::fill_i64` writes one value throughout. The loop's invariant: the first i elements are it, the others as they were.
+-- `fill_i64` writes one value throughout. The loop's invariant: the first i elements are it, the others as they were.
 -- A signed value is held by its bits over the loop, and fits them.
 use mathlib.Core.Path.{_≡_, refl}
 use Prim.Native.Nat.{_-_, _≤_}
@@ -8,9 +8,9 @@ use mir.Syntax.{w64}
 use mir.Val.{toZ, ofZ}
 use mir.Facts.{toZ-ofZ}
 use Rattle.distr.proofs.Writing.{written}
-use Rattle.ternary.proofs.Picking.{fill-more, fill-all}
-use Rattle.ternary.proofs.ends.fill_i64.Statement.{statement}
-use Rattle.ternary.proofs.ends.fill_i64.Tie as tie
+use Rattle.distr.proofs.Picking.{fill-more, fill-all}
+use Rattle.fill.proofs.fill_i64.Statement.{statement}
+use Rattle.fill.proofs.fill_i64.Tie as tie
 
 abbrev Inv-loop : tie.InvT-loop
 Inv-loop output₀ value i₀ output i =

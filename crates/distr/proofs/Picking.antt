@@ -1,30 +1,15 @@
 -- One 64-bit word an element: what a loop has written after each turn, and what it has read at the end, over any element type.
 use mathlib.Core.Path.{_≡_, sym, ap, ap₂, _∙_}
-use mathlib.Core.Bool.{Bool, true, false}
 use mathlib.Core.List.{List, map}
 use Prim.Native.Nat.{ℕ, _+_, _*_, _^_, _<_, _≤_}
 use native.Mathlib.Numerals.{add-one}
 use native.Mathlib.Omega.{arith}
-use lib.Dec.{leb, lit<}
-use mir.Val.{boolByte}
 use lib.ListN.{length, getD, drop, set, replicate, length-map, length-replicate, getD-replicate, length-drop, List·getD-map}
 use lib.Seq.{getD-drop, drop-drop}
 use borrow.Author.Tests.{le-leb}
 use Rattle.distr.specs.Words.{many, wide, mapRead, got}
 use Rattle.distr.proofs.Reading.{wides, length-wides, getD-wides, many-wide}
 use Rattle.distr.proofs.Writing.{written, written-more, written-all}
-use Rattle.ternary.specs.Picked.{slotOf}
-
--- a table of three is large enough
-pub slot-below : (first second w : ℕ) → slotOf first second w < 3
-unfolding slotOf
-slot-below first second w = go (leb first w) (leb second w)
-  where
-    go : (a b : Bool) → boolByte a + boolByte b < 3
-    go true true = lit< tt
-    go true false = lit< tt
-    go false true = lit< tt
-    go false false = lit< tt
 
 -- one value throughout: a turn writes it once more, and after the last it stands everywhere
 pub fill-more : {A : Type 0} (v : A) (out : List A) (i : ℕ) → i < length out
@@ -34,8 +19,8 @@ fill-more v out i h =
     ∙ written-more (replicate (length out) v) out i v (rw (length-replicate (length out) v) h) h
     ∙ ap (λ (k : ℕ). written (replicate (length out) v) k out) (sym (add-one i))
 
-pub fill-all : {A : Type 0} (v : A) (out now : List A) (i : ℕ) → i ≡ length out
-    → now ≡ written (replicate (length out) v) i out → now ≡ replicate (length out) v
+pub fill-all : {A : Type 0} (v : A) (out now : List A) (i : ℕ) → i ≡ length out → now ≡ written (replicate (length out) v) i out
+    → now ≡ replicate (length out) v
 fill-all v out now i e w =
     w ∙ ap (λ (k : ℕ). written (replicate (length out) v) k out) e ∙ written-all (replicate (length out) v) out (length-replicate (length out) v)
 

@@ -1,20 +1,19 @@
--- `clear_i64` leaves zeros. The loop's invariant: the first i elements are written.
+-- `fill_u64` writes one value throughout. The loop's invariant: the first i elements are it, the others as they were.
 use mathlib.Core.Path.{_≡_, refl}
 use Prim.Native.Nat.{_-_, _≤_}
 use native.Mathlib.Omega.{arith}
-use lib.IntN.{pos}
 use lib.ListN.{length, replicate, length-set}
 use Rattle.distr.proofs.Writing.{written}
-use Rattle.cdt.proofs.Picking.{fill-more, fill-all}
-use Rattle.cdt.proofs.store.clear_i64.Statement.{statement}
-use Rattle.cdt.proofs.store.clear_i64.Tie as tie
+use Rattle.distr.proofs.Picking.{fill-more, fill-all}
+use Rattle.fill.proofs.fill_u64.Statement.{statement}
+use Rattle.fill.proofs.fill_u64.Tie as tie
 
 abbrev Inv-loop : tie.InvT-loop
-Inv-loop output₀ i₀ output i =
-    (i ≤ length output₀) × (length output ≡ length output₀) × (output ≡ written (replicate (length output₀) (pos 0)) i output₀)
+Inv-loop output₀ value i₀ output i =
+    (i ≤ length output₀) × (length output ≡ length output₀) × (output ≡ written (replicate (length output₀) value) i output₀)
 
 abbrev μ-loop : tie.MeasureT-loop
-μ-loop output₀ i₀ output i = length output₀ - i
+μ-loop output₀ value i₀ output i = length output₀ - i
 
 loop-holds : tie.Need-loop-holds Inv-loop μ-loop
 loop-holds c = (omega arith, refl, refl)
@@ -22,8 +21,8 @@ loop-holds c = (omega arith, refl, refl)
 mul-output : tie.Need-mul-output Inv-loop μ-loop
 mul-output c = omega arith
 
-slice-set-of-output : tie.Need-slice-set-of-output Inv-loop μ-loop
-slice-set-of-output c = omega arith
+slice-write-output : tie.Need-slice-write-output Inv-loop μ-loop
+slice-write-output c = omega arith
 
 add-i : tie.Need-add-i Inv-loop μ-loop
 add-i c = omega arith
@@ -37,7 +36,7 @@ loop-again c =
     let turn = c .before .loop in (
       omega arith,
       simp length-set (turn .inv .1),
-      rw (turn .inv .2) (fill-more (pos 0) (start .args .output .now) (turn .i) (omega arith)),
+      rw (turn .inv .2) (fill-more (start .args .value) (start .args .output .now) (turn .i) (omega arith)),
     )
 
 same-length : tie.Need-same-length Inv-loop μ-loop
@@ -45,18 +44,19 @@ same-length c = c .before .loop .inv .1
 
 returns : tie.Need-returns Inv-loop μ-loop
 returns c =
+    let start = c .before .before in
     let turn = c .before .loop in
-    fill-all (pos 0) (c .before .before .args .output .now) (turn .output) (turn .i) (omega arith) (turn .inv .2)
+    fill-all (start .args .value) (start .args .output .now) (turn .output) (turn .i) (omega arith) (turn .inv .2)
 
-pub clear-i64-spec : {M : Type 1} → statement M
-clear-i64-spec =
+pub fill-u64-spec : {M : Type 1} → statement M
+fill-u64-spec =
     tie.close
     (tie.spec
     Inv-loop
     μ-loop
     loop-holds
     mul-output
-    slice-set-of-output
+    slice-write-output
     add-i
     loop-less
     loop-again

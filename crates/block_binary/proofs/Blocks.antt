@@ -1,0 +1,192 @@
+-- Filling an output block by block, over how the output holds coefficients: what is read from the words left now, behind the blocks that
+-- are filled, is what is read from those left at first.
+use mathlib.Core.Path.{_≡_, refl, sym, ap, ap₂, _∙_}
+use mathlib.Core.List.{List, [], _∷_, _++_, map, append-assoc, append-nil}
+use Prim.Native.Nat.{ℕ, zero, suc, _+_, _-_, _*_, _/_, _%_, _<_, _≤_}
+use native.Mathlib.Nat.{div-add-mod'}
+use native.Mathlib.Omega.{arith}
+use borrow.Rule.Slice.PartMut.{midOf, postOf, putMid, mid-len}
+use lib.ListN.{length, take, drop, set, replicate, length-append, length-set, length-replicate}
+use lib.Seq.{length-take-le, take-at, take-all, set-out}
+use lib.IntN.{ℤ, pos, natAbs}
+use Rattle.distr.specs.Words.{Read, got, short, mapRead, bindRead, choose, chooseEach}
+use Rattle.distr.specs.Blocks.{block, blocksOf}
+use Rattle.distr.specs.Draw.{settled}
+use Rattle.distr.proofs.Reading.{map-read-twice, map-read-same}
+use Rattle.distr.proofs.Writing.{map-append, map-replicate, map-set}
+use Rattle.words.specs.declared.Taken.the-variants.{Got, Short}
+use Rattle.words.specs.Reading.{taken}
+use Rattle.words.proofs.Places.{place-of}
+use Rattle.words.proofs.Taking.{took-choice, taken-short}
+
+-- nothing is put past the end of zeros
+pub cleared-past : {A : Type 0} (z : A) (n i : ℕ) (o : A) → n ≤ i → replicate n z ≡ set (replicate n z) i o
+cleared-past z n i o h = sym (set-out (replicate n z) i o (omega (arith, length-replicate n z)))
+
+-- what stands up to the end of a part that was filled
+front : {A : Type 0} (start size : ℕ) (out ys : List A) → start ≤ length out → length ys ≡ size
+    → take (start + size) (putMid start (start + size - start) out ys) ≡ take start out ++ ys
+front {A} start size out ys h l =
+    let post : List A = postOf start (start + size - start) out in
+    ap (take (start + size)) (sym (append-assoc (take start out) ys post))
+    ∙ take-at (take start out ++ ys) post (start + size) (length-append (take start out) ys ∙ ap₂ (λ (a b : ℕ). a + b) (length-take-le start out h) l)
+
+-- the next choice, and then the others
+choose-next : (k m s : ℕ) (ws rest : List ℕ) → choose k ws ≡ got s rest
+    → chooseEach (replicate (suc m) k) ws ≡ mapRead (λ ss. s ∷ ss) (chooseEach (replicate m k) rest)
+unfolding chooseEach bindRead
+choose-next k m s ws rest e = rw e
+
+choose-none : (k m : ℕ) (ws : List ℕ) → choose k ws ≡ short → chooseEach (replicate (suc m) k) ws ≡ short
+unfolding chooseEach bindRead
+choose-none k m ws e = rw e
+
+-- how an output holds coefficients: each by itself, 0 as z and 1 as o
+pub record Holds {A : Type 0} (write : List ℤ → List A) (z o : A) : Type 0 where
+  pub none : write [] ≡ []
+  pub zeros : (n : ℕ) → write (replicate n (pos 0)) ≡ replicate n z
+  pub one-block : (size s : ℕ) → write (block size s) ≡ set (replicate size z) s o
+  pub joined : (xs ys : List ℤ) → write (xs ++ ys) ≡ write xs ++ write ys
+
+-- i64 holds the coefficients themselves, u64 their magnitudes
+pub signed : Holds (λ cs. cs) (pos 0) (pos 1)
+signed = record { none = refl; zeros = λ n. refl; one-block = λ size s. refl; joined = λ xs ys. refl }
+
+pub unsigned : Holds (map natAbs) 0 1
+unsigned = record {
+  none = refl;
+  zeros = λ n. map-replicate natAbs n (pos 0);
+  one-block = λ size s. map-set natAbs (replicate size (pos 0)) s (pos 1) ∙ ap (λ (t : List ℕ). set t s 1) (map-replicate natAbs size (pos 0));
+  joined = map-append natAbs;
+}
+
+-- what is read from the words left where m blocks are still to fill and xs stands before them
+abbrev onwards : {A : Type 0} → (List ℤ → List A) → ℕ → ℕ → List A → ℕ → List ℕ → Read (List A)
+onwards write size k xs m ws = mapRead (λ ss. xs ++ write (blocksOf size ss)) (chooseEach (replicate m k) ws)
+
+-- the rule's reading of an output of n coefficients in blocks of a size, each by a choice among k
+abbrev pub wanted : ℕ → ℕ → ℕ → List ℕ → Read (List ℤ)
+wanted size k n ws = mapRead (blocksOf size) (chooseEach (replicate (n / size) k) ws)
+
+-- the answer of a draw whose reading is known
+module _ {A : Type 0} (write : List ℤ → List A) (words : List ℕ) (place n : ℕ) where
+  settled-got : (r : Read (List ℤ)) (at : ℕ) (out : List A) → at ≤ length words → mapRead write r ≡ got out (drop at words)
+      → record { number = 0; place = at; output = out } ≡ settled write (length words) place n r
+  unfolding settled mapRead
+  settled-got (got cs rest) at out h e =
+      let same : got (write cs) rest ≡ got out (drop at words) = e in
+      let held : out ≡ write cs = cc in
+      let behind : drop at words ≡ rest = cc in
+      ap₂ (λ (i : ℕ) (l : List A). record { number = 0; place = i; output = l })
+      (sym (place-of words at h) ∙ ap (λ (l : List ℕ). length words - length l) behind) held
+  settled-got short at out h e =
+      let no : short ≡ got out (drop at words) = e in let z : _≡_ {A = ℕ} 0 1 = cc in absurd (omega arith)
+
+  settled-short : (r : Read (List ℤ)) (out : List A) → out ≡ write (replicate n (pos 0)) → mapRead write r ≡ short
+      → record { number = 23; place = place; output = out } ≡ settled write (length words) place n r
+  unfolding settled mapRead
+  settled-short (got cs rest) out o e =
+      let no : got (write cs) rest ≡ short = e in let z : _≡_ {A = ℕ} 0 1 = cc in absurd (omega arith)
+  settled-short short out o e = ap (λ (l : List A). record { number = 23; place = place; output = l }) o
+
+module _ {A : Type 0} (write : List ℤ → List A) {z o : A} (holds : Holds write z o) (size k : ℕ) (xs : List A) (ws : List ℕ) where
+  -- none is left to fill; a word is missing; a choice fills one
+  onwards-end : onwards write size k xs 0 ws ≡ got xs ws
+  unfolding mapRead chooseEach blocksOf
+  onwards-end = ap (λ (l : List A). got l ws) (ap (λ (l : List A). xs ++ l) (holds .none) ∙ append-nil xs)
+
+  onwards-short : (m : ℕ) → choose k ws ≡ short → onwards write size k xs (suc m) ws ≡ short
+  unfolding mapRead
+  onwards-short m e = rw (choose-none k m ws e)
+
+  onwards-next : (m s : ℕ) (rest : List ℕ) → choose k ws ≡ got s rest
+      → onwards write size k xs (suc m) ws ≡ onwards write size k (xs ++ write (block size s)) m rest
+  unfolding blocksOf
+  onwards-next m s rest e =
+      let others = chooseEach (replicate m k) rest in
+      ap (mapRead (λ (ss : List ℕ). xs ++ write (blocksOf size ss))) (choose-next k m s ws rest e)
+      ∙ map-read-twice (λ (ss : List ℕ). xs ++ write (blocksOf size ss)) (λ (ss : List ℕ). s ∷ ss) others
+      ∙ map-read-same _ _ (λ ss. ap (λ (l : List A). xs ++ l) (holds .joined (block size s) (blocksOf size ss))
+      ∙ sym (append-assoc xs (write (block size s)) (write (blocksOf size ss)))) others
+
+module _ {A : Type 0} (write : List ℤ → List A) (words : List ℕ) (size k n place : ℕ) where
+  -- the blocks before `start` are filled, `left` blocks follow, and the words are read up to `at`
+  pub record Turn (start at : ℕ) (out : List A) : Type 0 where
+    pub left : ℕ
+    pub whole : start + left * size ≡ n
+    pub kept : length out ≡ n
+    pub within : at ≤ length words
+    pub reading : onwards write size k (take start out) left (drop at words) ≡ mapRead write (wanted size k n (drop place words))
+
+  pub turn-start : (out : List A) → n % size ≡ 0 → length out ≡ n → place ≤ length words → Turn 0 place out
+  turn-start out d l h = record {
+    left = n / size;
+    whole = omega (arith, div-add-mod' n size);
+    kept = l;
+    within = h;
+    reading = sym (map-read-twice write (blocksOf size) (chooseEach (replicate (n / size) k) (drop place words)));
+  }
+
+module _ {A : Type 0} {write : List ℤ → List A} {z o : A} (holds : Holds write z o) {words : List ℕ} {size k n place start at : ℕ} {out : List A}
+    (t : Turn write words size k n place start at out) where
+  -- before the end a block is left, and after it one less
+  some-left : start < n → (m : ℕ) × (t .left ≡ suc m) × (start + size + m * size ≡ n)
+  some-left h = go (t .left) (t .whole)
+    where
+      go : (l : ℕ) → start + l * size ≡ n → (m : ℕ) × (l ≡ suc m) × (start + size + m * size ≡ n)
+      go zero e = absurd (omega arith)
+      go (suc l) e = (l, refl, omega arith)
+
+  -- at the end none is
+  none-left : 0 < size → n ≤ start → t .left ≡ 0
+  none-left p h = go (t .left) (t .whole)
+    where
+      go : (l : ℕ) → start + l * size ≡ n → l ≡ 0
+      go zero e = refl
+      go (suc l) e = absurd (omega arith)
+
+  -- a block that begins before the end has room
+  pub turn-room : start < n → start + size ≤ length out
+  turn-room h = omega (arith, some-left h .2, t .kept)
+
+  module _ (h : start < n) where
+    -- one choice, and its block filled in the output's part
+    pub turn-more : {s next : ℕ} {ys : List A} → Got s next ≡ taken (length words) (choose k (drop at words))
+        → ys ≡ set (replicate (length (midOf start (start + size - start) out)) z) s o → length (putMid start (start + size - start) out ys) ≡ length out
+        → Turn write words size k n place (start + size) next (putMid start (start + size - start) out ys)
+    turn-more {s} {next} {ys} e f l =
+        let m = some-left h in
+        let chosen = took-choice words at s next k e in
+        let lent : length (midOf start (start + size - start) out) ≡ size = omega (arith, mid-len start (start + size) out (turn-room h)) in
+        let fill : ys ≡ set (replicate size z) s o = f ∙ ap (λ (j : ℕ). set (replicate j z) s o) lent in
+        let size-fill : length ys ≡ size = ap length fill ∙ simp (length-set, length-replicate) in
+        record {
+          left = m .0;
+          whole = m .2;
+          kept = l ∙ t .kept;
+          within = chosen .within;
+          reading = ap (λ (xs : List A). onwards write size k xs (m .0) (drop next words))
+              (front start size out ys (omega (arith, turn-room h)) size-fill
+              ∙ ap (λ (l : List A). take start out ++ l) (fill ∙ sym (holds .one-block size s)))
+              ∙ sym (onwards-next write holds size k (take start out) (drop at words) (m .0) s (drop next words) (chosen .reads))
+              ∙ ap (λ (j : ℕ). onwards write size k (take start out) j (drop at words)) (sym (m .1)) ∙ t .reading;
+        }
+
+    -- a word is missing, and the output was cleared
+    pub turn-short : {out′ : List A} → Short ≡ taken (length words) (choose k (drop at words)) → out′ ≡ replicate (length out) z
+        → record { number = 23; place = place; output = out′ } ≡ settled write (length words) place n (wanted size k n (drop place words))
+    turn-short {out′} e c =
+        let m = some-left h in
+        settled-short write words place n (wanted size k n (drop place words)) out′
+        (c ∙ ap (λ (j : ℕ). replicate j z) (t .kept) ∙ sym (holds .zeros n))
+        (sym (t .reading) ∙ ap (λ (j : ℕ). onwards write size k (take start out) j (drop at words)) (m .1)
+        ∙ onwards-short write holds size k (take start out) (drop at words) (m .0) (taken-short (length words) (choose k (drop at words)) e))
+
+  -- every block is filled
+  pub turn-end : 0 < size → n ≤ start
+      → record { number = 0; place = at; output = out } ≡ settled write (length words) place n (wanted size k n (drop place words))
+  turn-end p h =
+      settled-got write words place n (wanted size k n (drop place words)) at out (t .within)
+      (sym (t .reading) ∙ ap (λ (j : ℕ). onwards write size k (take start out) j (drop at words)) (none-left p h)
+      ∙ onwards-end write holds size k (take start out) (drop at words)
+      ∙ ap (λ (l : List A). got l (drop at words)) (take-all start out (omega (arith, t .kept))))

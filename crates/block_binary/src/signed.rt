@@ -1,0 +1,58 @@
+// Blocks of signed output, each filled in its own part.
+use distr::answer::Answer;
+use words::Taken;
+ghost use mathlib.Core.Path.{_≡_};
+ghost use Prim.Native.Nat.{_%_, _/_, _≤_, _<_};
+ghost use lib.ListN.{length, drop, set, replicate};
+ghost use lib.IntN.{pos};
+ghost use Rattle.distr.specs.Words.{mapRead, chooseEach};
+ghost use Rattle.distr.specs.Blocks.{blocksOf};
+ghost use Rattle.distr.specs.Draw.{outcome, settled};
+
+// Fills one block, which is lent as a part of the output: zeros, and a one at the position, unless that is past the block.
+fn fill_block_i64(block: &mut [i64], position: usize)
+    ensures { λ r. ⌜ now (block .exit) ≡ set (replicate (length (now (block .entry))) (pos 0)) position (pos 1) ⌝ }
+{
+    let size = block.len();
+    fill::clear_i64(block);
+    if position < size {
+        block[position] = 1;
+    }
+}
+
+// Fills the output block by block, each by one choice among `choices`. Where a word is missing the output is cleared.
+pub(crate) fn draw_blocks_i64(
+    output: &mut [i64],
+    block_size: usize,
+    choices: u64,
+    words: &[u32],
+    place: usize,
+) -> Answer
+    requires { ⌜ (0 < «block_size») × (length (now output) % «block_size» ≡ 0) × (place ≤ length (now words)) ⌝ }
+    ensures { λ r. ⌜ (let n = length (now (output .entry)) in
+        outcome r (now (output .exit))
+        ≡ settled (λ cs. cs) (length (now (words .entry))) place n
+        (mapRead (blocksOf «block_size») (chooseEach (replicate (n / «block_size») choices) (drop place (now (words .entry)))))) ⌝ }
+{
+    let n = output.len();
+    let mut start = 0;
+    let mut at = place;
+    while start < n {
+        match words::uniform_below(words, at, choices) {
+            Taken::Got { value, place: next } => {
+                let end = start + block_size;
+                fill_block_i64(&mut output[start..end], value as usize);
+                start = end;
+                at = next;
+            }
+            Taken::Short => {
+                fill::clear_i64(output);
+                return Answer { number: 23, place };
+            }
+        }
+    }
+    Answer {
+        number: 0,
+        place: at,
+    }
+}
