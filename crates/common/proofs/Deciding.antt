@@ -1,11 +1,11 @@
 -- The whole answer of a draw by one rule: refused early, short of words, or drawn, over how the output holds coefficients.
 use mathlib.Core.Path.{_≡_, refl, sym, ap, ap₂, _∙_}
-use mathlib.Core.Bool.{Bool, true, false, cond}
+use mathlib.Core.Bool.{Bool, true, false}
 use mathlib.Core.List.{List, [], _∷_, _++_, map}
 use Prim.Native.Nat.{ℕ, zero, suc, _+_, _-_, _*_, _/_, _%_, _<_, _≤_}
 use native.Mathlib.Nat.{mod-lt, sub-zero}
 use native.Mathlib.Omega.{arith}
-use borrow.Author.Tests.{ltb-true, ltb-false, le-ltb, lt-ltb, le-leb, lt-leb, ne-eqb}
+use borrow.Author.Tests.{ltb-false, le-leb, lt-leb, ne-eqb}
 use lib.Dec.{ltb}
 use lib.ListN.{length, take, drop, replicate, length-drop}
 use lib.IntN.{ℤ, pos, +ℤ-idr}
@@ -15,7 +15,7 @@ use Rattle.distr.specs.Packed.{digits, split, packed, minusOne}
 use Rattle.distr.specs.UniformTernary.{bytes, uniformTernary, tritValue}
 use Rattle.distr.specs.Encoding.{encodeWith, signedWith}
 use Rattle.distr.specs.Numbers.{firstOf, pastEnd, tooLong}
-use Rattle.distr.specs.Draw.{Outcome, judged, ruleDraw}
+use Rattle.distr.specs.Draw.{judged, ruleDraw}
 use Rattle.distr.proofs.Reading.{many-word}
 use Rattle.distr.proofs.Writing.{map-append, map-map, map-replicate, map-take}
 use Rattle.distr.proofs.Drawing.{rule-got, rule-short}

@@ -1,18 +1,18 @@
 -- The cumulative Gaussian: how many 64-bit words give each coefficient, and so the count of its rule.
 use mathlib.Core.Path.{_≡_, refl, sym, ap, ap₂, subst, _∙_}
-use mathlib.Core.Logic.{_⊎_, inl, inr, ⊎-elim}
+use mathlib.Core.Logic.{_⊎_, inl, inr}
 use mathlib.Core.Bool.{Bool, true, false, not, cond, _&&_}
-use mathlib.Core.List.{List, [], _∷_}
-use Prim.Native.Nat.{ℕ, zero, suc, _+_, _-_, _*_, _/_, _%_, _^_, _<_, _≤_, zero-le}
-use native.Mathlib.Nat.{le-refl, le-trans, le-step, le-dest, le-of-suc-le-suc, not-suc-le-zero, eq-or-lt-of-le}
+use mathlib.Core.List.{List}
+use Prim.Native.Nat.{ℕ, zero, suc, _+_, _-_, _*_, _/_, _%_, _^_, _<_, _≤_}
+use native.Mathlib.Nat.{le-refl, le-trans, le-step, le-dest, eq-or-lt-of-le}
 use native.Mathlib.Nat.{zero-mul, one-mul, mul-one, mul-comm}
 use native.Mathlib.Omega.{arith}
 use borrow.Author.Tests.{leb-true, leb-false, ltb-true, ltb-false, eqb-true, eqb-false, le-leb, lt-leb, lt-ltb, le-ltb, eq-eqb, ne-eqb}
 use lib.Dec.{T, leb, ltb, eqb, leb→le, le→leb, ltb→lt, lt→ltb, eqb→eq, eqb·suc-zero, eqb·zero-suc, eqb·suc-suc}
-use lib.ListN.{length, getD}
+use lib.ListN.{getD}
 use lib.Ieee.Fits.{and-i, and-l, and-r, eq→eqb}
 use lib.IntN.{ℤ, pos, negsuc}
-use Rattle.distr.specs.Gaussian.{neverFalls, rising, cumulativeTable, magnitude, signed, cumulativeValue, cumulative}
+use Rattle.distr.specs.Gaussian.{cumulativeTable, magnitude, signed, cumulativeValue, cumulative}
 use Rattle.distr.proofs.Rising.{Rising, is-rising, rises, Largest, largest}
 use Rattle.counts.specs.Inside.{same, within, listOf}
 use Rattle.counts.specs.Formula.{productOf, cumulativeWays}

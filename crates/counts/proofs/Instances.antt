@@ -1,8 +1,8 @@
 -- The claims speak of something: requests that are accepted, lists inside a distribution, words that carry a draw list.
 use mathlib.Core.Path.{_≡_, refl, subst⁻¹}
 use mathlib.Core.Bool.{Bool, true}
-use mathlib.Core.List.{List, [], _∷_}
-use Prim.Native.Nat.{ℕ, _-_, _^_}
+use mathlib.Core.List.{[], _∷_}
+use Prim.Native.Nat.{_-_, _^_}
 use lib.Dec.{T, lit≤}
 use lib.IntN.{pos}
 use lib.Ieee.{round, mul, lt}

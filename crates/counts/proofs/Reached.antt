@@ -19,11 +19,11 @@ use Rattle.distr.specs.Gaussian.{support, cumulativeLimit, cumulativeTable}
 use Rattle.distr.specs.Layered.{layerTables}
 use Rattle.distr.specs.Distribution.{Distr, secret, error, Tables, onDeviation, isLayered, gaussianRead, coefficients, rule, secretRule, errorRule}
 use Rattle.distr.specs.Making.{refuse, makingNumber}
-use Rattle.distr.specs.Numbers.{firstOf, pastEnd, tooLong, badWeight, lengthNumber, gaussianTable, tableNumber, stateNumbers, signedNumbers}
+use Rattle.distr.specs.Numbers.{firstOf, tooLong, badWeight, lengthNumber, gaussianTable, tableNumber, stateNumbers, signedNumbers}
 use Rattle.distr.specs.Draw.{Outcome, settled, judged, signedDraw}
 use Rattle.counts.specs.Inside.{inside}
 use Rattle.counts.specs.Formula.{formula}
-use Rattle.counts.specs.Demand3.{Exactly, inBox, Carries, Meets, Accepted, accepted, Reaches, Counted, Demand3}
+use Rattle.counts.specs.Demand3.{inBox, Carries, Meets, Accepted, accepted, Reaches, Counted, Demand3}
 use Rattle.counts.proofs.Exact.{exactly-as}
 use Rattle.counts.proofs.Requests.{what-passed, requests-counted}
 

@@ -1,11 +1,10 @@
 -- Every accepted request is counted: exactly the formula's number of draw lists give a coefficient list inside the distribution, none gives
 -- another, every draw list is carried by some words, and whatever is read is a draw list.
-use mathlib.Core.Path.{_≡_, refl, sym, subst}
+use mathlib.Core.Path.{_≡_, refl}
 use mathlib.Core.Bool.{Bool, true, false, not, cond, _&&_, _||_}
 use mathlib.Core.List.{List, [], _∷_}
 use Prim.Native.Nat.{ℕ, zero, suc, _+_, _-_, _%_, _^_, _≤_, _<_}
 use native.Mathlib.Omega.{arith}
-use borrow.Author.Tests.{ltb-false, leb-true, eqb-true, eqb-false}
 use lib.Dec.{T, leb, ltb, eqb, eqb→eq, nltb→le, leb→le}
 use lib.IntN.{ℤ}
 use lib.Ieee.{Float, binary64, sub, lt}

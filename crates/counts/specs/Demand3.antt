@@ -7,7 +7,7 @@ use mathlib.Core.List.{List, [], _∷_}
 use lib.Dec.{T, ltb, eqb}
 use lib.ListN.{length, drop}
 use lib.IntN.{ℤ}
-use Rattle.distr.specs.Words.{Read, got, areWords, choose}
+use Rattle.distr.specs.Words.{got, areWords, choose}
 use Rattle.distr.specs.Rule.{Rule}
 use Rattle.distr.specs.Distribution.{Distr, Tables, isLayered, rule}
 use Rattle.distr.specs.Making.{makingNumber}

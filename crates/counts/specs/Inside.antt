@@ -1,5 +1,5 @@
 -- "Inside a distribution are lists of n coefficients": the distribution's own condition on a whole list.
-use Prim.Native.Nat.{ℕ, zero, suc, _+_, _-_, _/_, _^_}
+use Prim.Native.Nat.{ℕ, zero, suc, _+_, _/_, _^_}
 use mathlib.Core.Bool.{Bool, true, false, cond, _&&_}
 use mathlib.Core.List.{List, [], _∷_}
 use lib.Dec.{leb, eqb}
@@ -9,7 +9,6 @@ use Rattle.distr.specs.declared.secret_key_distr.SecretKeyDistr.{SecretKeyDistr
 use Rattle.distr.specs.declared.secret_key_distr.SecretKeyDistr.the-variants.{UniformBinary, Binary, SparseTernary, UniformTernary, Ternary, FixedHammingWeightBinary, BlockBinary, FixedHammingWeightTernary, FixedCompositionTernary, Gaussian}
 use Rattle.distr.specs.declared.secret_key_distr.BlockOccupancy.{BlockOccupancy}
 use Rattle.distr.specs.declared.secret_key_distr.BlockOccupancy.the-variants.{AtMostOne, ExactlyOne}
-use Rattle.distr.specs.declared.error_distribution.ErrorDistribution.{ErrorDistribution}
 use Rattle.distr.specs.declared.error_distribution.ErrorDistribution.the-variants.{CenteredBinomial, Gaussian as ErrorGaussian}
 use Rattle.distr.specs.Packed.{minusOne}
 use Rattle.distr.specs.Thresholds.{threshold, nonzeroEnd}

@@ -1,5 +1,5 @@
 -- Making a sampler: the numbers 1 to 5, and the largest magnitude of what it draws.
-use Prim.Native.Nat.{ℕ, _+_, _-_, _^_}
+use Prim.Native.Nat.{ℕ, _-_, _^_}
 use mathlib.Core.Bool.{Bool, not, cond, _&&_, _||_}
 use lib.Dec.{leb, ltb, eqb}
 use lib.Ieee.{Float, binary64, mul, sub, lt}

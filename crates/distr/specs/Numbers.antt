@@ -1,13 +1,10 @@
 -- "What a call hands back": the numbers of a draw, in their order.
 use Prim.Native.Nat.{ℕ, zero, suc, _+_, _*_, _-_, _%_, _^_}
-use mathlib.Core.Bool.{Bool, true, false, not, cond, _&&_, _||_}
+use mathlib.Core.Bool.{Bool, true, false, not, cond, _||_}
 use mathlib.Core.List.{List, [], _∷_, _++_}
 use lib.Dec.{leb, ltb, eqb}
 use lib.ListN.{length}
-use Rattle.distr.specs.declared.secret_key_distr.SecretKeyDistr.{SecretKeyDistr}
 use Rattle.distr.specs.declared.secret_key_distr.SecretKeyDistr.the-variants.{UniformBinary, Binary, SparseTernary, UniformTernary, Ternary, FixedHammingWeightBinary, BlockBinary, FixedHammingWeightTernary, FixedCompositionTernary, Gaussian}
-use Rattle.distr.specs.declared.error_distribution.ErrorDistribution.{ErrorDistribution}
-use Rattle.distr.specs.declared.error_distribution.ErrorDistribution.the-variants.{CenteredBinomial, Gaussian as ErrorGaussian}
 use Rattle.distr.specs.Gaussian.{support, cumulativeLimit, cumulativeTable}
 use Rattle.distr.specs.Layered.{layerTables}
 use Rattle.distr.specs.Distribution.{Distr, secret, error, Tables, onDeviation}

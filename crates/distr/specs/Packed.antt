@@ -5,7 +5,7 @@ use mathlib.Core.List.{List, [], _∷_, _++_, map}
 use lib.Dec.{ltb, eqb}
 use lib.ListN.{take, replicate}
 use lib.IntN.{ℤ, pos, negsuc}
-use Rattle.distr.specs.Words.{Read, mapRead, many, word}
+use Rattle.distr.specs.Words.{mapRead, many, word}
 use Rattle.distr.specs.Rule.{Rule}
 
 -- The lowest `count` digits of x in a base, lowest first: bits, two-bit groups, bytes and base-3 digits.

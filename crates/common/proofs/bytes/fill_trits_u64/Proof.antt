@@ -1,5 +1,5 @@
 -- `bytes::fill_trits_u64` fills the output with the table's entries: what the rule gives stays the same from turn to turn.
-use mathlib.Core.Path.{sym, _∙_}
+use mathlib.Core.Path.{sym}
 use Prim.Native.Nat.{_+_, _*_, _-_, _≤_}
 use native.Mathlib.Nat.{le-of-eq}
 use native.Mathlib.Omega.{arith}
