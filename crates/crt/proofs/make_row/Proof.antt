@@ -1,0 +1,90 @@
+-- `make_row` makes a row from the last one: after c turns its first c elements are made.
+use Prim.Native.Nat.{_-_, _≤_}
+use native.Mathlib.Nat.{le-antisymm}
+use native.Mathlib.Omega.{arith}
+use borrow.Author.Needs.{needs}
+use lib.ListN.{length}
+use Rattle.crt.specs.Rows.{fromNative}
+use Rattle.crt.proofs.RowMaking.{Made, made-none, made-more, made-length}
+use Rattle.crt.proofs.make_row.Statement.{statement}
+use Rattle.crt.proofs.make_row.Tie as tie
+
+abbrev Inv-loop : tie.InvT-loop
+Inv-loop output₀ at last modulus count c₀ output c =
+    (c ≤ count) × (before : at ≤ last) × (inside : last ≤ length output₀) × Made (fromNative modulus) output₀ at last before inside c output
+
+abbrev μ-loop : tie.MeasureT-loop
+μ-loop output₀ at last modulus count c₀ output c = count - c
+
+sub-count : tie.Need-sub-count Inv-loop μ-loop
+sub-count c = omega arith
+
+loop-holds : tie.Need-loop-holds Inv-loop μ-loop
+loop-holds c = (omega arith, c .before .pre .0, c .before .pre .1, made-none _ _ _ _ _ _)
+
+add-word : tie.Need-add-word Inv-loop μ-loop
+add-word c = omega arith
+
+mul-word : tie.Need-mul-word Inv-loop μ-loop
+mul-word c =
+    let loop = c .before .loop in
+    omega (arith, made-length _ _ _ _ _ _ (omega arith) (loop .inv .3))
+
+slice-read-word : tie.Need-slice-read-word Inv-loop μ-loop
+slice-read-word c =
+    let loop = c .before .before .loop in
+    omega (arith, made-length _ _ _ _ _ _ (omega arith) (loop .inv .3))
+
+from-native-requires : tie.Need-from-native-requires Inv-loop μ-loop
+from-native-requires c κs = search needs
+
+add-output : tie.Need-add-output Inv-loop μ-loop
+add-output c = omega arith
+
+mul-output : tie.Need-mul-output Inv-loop μ-loop
+mul-output c =
+    let loop = c .before .before .before .loop in
+    omega (arith, made-length _ _ _ _ _ _ (omega arith) (loop .inv .3))
+
+slice-write-output : tie.Need-slice-write-output Inv-loop μ-loop
+slice-write-output c =
+    let loop = c .before .before .before .loop in
+    omega (arith, made-length _ _ _ _ _ _ (omega arith) (loop .inv .3))
+
+add-c : tie.Need-add-c Inv-loop μ-loop
+add-c c = omega arith
+
+loop-less : tie.Need-loop-less Inv-loop μ-loop
+loop-less c = omega arith
+
+loop-again : tie.Need-loop-again Inv-loop μ-loop
+loop-again c =
+    let loop = c .before .before .before .loop in
+    (omega arith, loop .inv .1, loop .inv .2, made-more _ _ _ _ _ _ 0 _ (omega arith) (loop .inv .3) (c .from-native .ensures))
+
+same-length : tie.Need-same-length Inv-loop μ-loop
+same-length c = made-length _ _ _ _ _ _ (c .before .loop .inv .0) (c .before .loop .inv .3)
+
+returns : tie.Need-returns Inv-loop μ-loop
+returns c = rw (le-antisymm (c .loop-test .left) (c .before .loop .inv .0)) (c .before .loop .inv .3 .holds)
+
+pub make-row-spec : {M : Type 1} → statement M
+make-row-spec =
+    tie.close
+    (tie.spec
+    Inv-loop
+    μ-loop
+    sub-count
+    loop-holds
+    add-word
+    mul-word
+    slice-read-word
+    from-native-requires
+    add-output
+    mul-output
+    slice-write-output
+    add-c
+    loop-less
+    loop-again
+    same-length
+    returns)

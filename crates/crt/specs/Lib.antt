@@ -1,0 +1,2 @@
+-- What the functions of the CRT layout compute.
+pub mod Rows
