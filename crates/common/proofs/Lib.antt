@@ -1,6 +1,0 @@
--- Laws that the proofs of this crate share, over the element type of the output.
-pub mod Clearing
-pub mod Storing
-pub mod Packing
-pub mod Deciding
-pub mod Going

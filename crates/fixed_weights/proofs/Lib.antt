@@ -1,0 +1,8 @@
+-- Laws that the proofs of this crate share, over the element type of the output.
+pub mod Inserting
+pub mod Turns
+pub mod Judging
+pub mod Planning
+pub mod Signs
+pub mod SignTurns
+pub mod Signing

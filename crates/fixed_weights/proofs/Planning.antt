@@ -1,0 +1,104 @@
+-- A draw by a plan is the draw by its rule, over how the output holds coefficients.
+use mathlib.Core.Path.{_≡_, refl, sym, ap, ap₂, _∙_}
+use mathlib.Core.List.{List, [], _∷_, _++_, map}
+use Prim.Native.Nat.{ℕ, zero, suc, _+_, _-_, _<_}
+use native.Mathlib.Nat.{sub-zero}
+use native.Mathlib.Omega.{arith}
+use lib.ListN.{length, getD, drop, replicate, length-append, length-replicate}
+use lib.IntN.{ℤ, pos, natAbs, +ℤ-idr}
+use Rattle.distr.specs.Words.{Read, got, short, mapRead, chooseEach}
+use Rattle.distr.specs.Rule.{Rule, readBy}
+use Rattle.distr.specs.Packed.{minusOne}
+use Rattle.distr.specs.Encoding.{encodeWith, signedWith}
+use Rattle.distr.specs.Insertion.{countUp, insertEach}
+use Rattle.distr.specs.Numbers.{badWeight}
+use Rattle.distr.specs.Draw.{Outcome, settled, ruleDraw}
+use Rattle.distr.proofs.Writing.{map-append, map-replicate, map-id}
+use Rattle.fixed_weights.specs.declared.insertion.Plan.{Plan}
+use Rattle.packed.specs.Table.{entries}
+use Rattle.fixed_weights.specs.Inserting.{insertAll, placed, codeValue, planned, codes, planRule, Ready, Planned, inserting}
+use Rattle.fixed_weights.proofs.Judging.{weightNumber, accepted}
+use Rattle.fixed_weights.proofs.Inserting.{rule-inserts, map-insert}
+
+-- how an output holds coefficients: `write` holds each by `val`, and a table holds −1, 1 and 0
+pub record Holds {A : Type 0} (z : A) (write : List ℤ → List A) (val : ℤ → A) (table : List A) : Type 0 where
+  pub writes : (cs : List ℤ) → write cs ≡ map val cs
+  pub zeros : val (pos 0) ≡ z
+  pub tabled : (c : ℕ) → c < 3 → getD table c z ≡ val (codeValue c)
+
+by-codes : {A : Type 0} (val : ℤ → A) (minus one z : A) → minus ≡ val minusOne → one ≡ val (pos 1) → z ≡ val (pos 0)
+    → (c : ℕ) → c < 3 → getD (minus ∷ one ∷ z ∷ []) c z ≡ val (codeValue c)
+by-codes val minus one z e f g zero l = e
+by-codes val minus one z e f g (suc zero) l = f
+by-codes val minus one z e f g (suc (suc zero)) l = g
+by-codes val minus one z e f g (suc (suc (suc c))) l = absurd (omega arith)
+
+-- signed values as they are, and their magnitudes
+pub holds-itself : Holds (pos 0) (λ (cs : List ℤ). cs) (λ (c : ℤ). c) (minusOne ∷ pos 1 ∷ pos 0 ∷ [])
+holds-itself = record { writes = λ cs. sym (map-id cs); zeros = refl; tabled = by-codes (λ (c : ℤ). c) minusOne (pos 1) (pos 0) refl refl refl }
+
+pub holds-magnitude : Holds 0 (map natAbs) natAbs (1 ∷ 1 ∷ 0 ∷ [])
+holds-magnitude = record { writes = λ cs. refl; zeros = refl; tabled = by-codes natAbs 1 1 0 refl refl refl }
+
+-- −1 as the caller holds it
+pub holds-signed : (minus held : ℤ) → held ≡ minus → Holds (pos 0) (map (signedWith minus)) (signedWith minus) (held ∷ pos 1 ∷ pos 0 ∷ [])
+holds-signed minus held e = record {
+  writes = λ cs. refl;
+  zeros = refl;
+  tabled = by-codes (signedWith minus) held (pos 1) (pos 0) (e ∙ sym (+ℤ-idr minus)) refl refl;
+}
+
+pub holds-residue : (minus : ℕ) → Holds 0 (map (encodeWith minus)) (encodeWith minus) (minus ∷ 1 ∷ 0 ∷ [])
+holds-residue minus = record {
+  writes = λ cs. refl;
+  zeros = refl;
+  tabled = by-codes (encodeWith minus) minus 1 0 (sym (sub-zero minus)) refl refl;
+}
+
+module _ {A : Type 0} {z : A} {write : List ℤ → List A} {val : ℤ → A} {table : List A} (h : Holds z write val table) where
+  -- a reading settled is a reading placed
+  pub settled-placed : (count place n : ℕ) (r : Read (List ℤ)) → settled write count place n r ≡ placed z count place n (mapRead (map val) r)
+  unfolding settled placed mapRead
+  settled-placed count place n (got cs rest) = rw (h .writes cs)
+  settled-placed count place n short = rw (h .writes (replicate n (pos 0)), map-replicate val n (pos 0), h .zeros)
+
+  -- a plan's copies, from the table
+  copies : (m c : ℕ) → c < 3 → map val (replicate m (codeValue c)) ≡ replicate m (getD table c z)
+  copies m c l = map-replicate val m (codeValue c) ∙ ap (replicate m) (sym (h .tabled c l))
+
+  inserted-values : (p : Plan) → p .first < 3 → p .second < 3
+      → map val (replicate (p .firsts) (codeValue (p .first)) ++ replicate (p .seconds) (codeValue (p .second))) ≡ entries table z (codes p)
+  inserted-values p k l =
+      let entry : ℕ → A = λ d. getD table d z in
+      map-append val (replicate (p .firsts) (codeValue (p .first))) (replicate (p .seconds) (codeValue (p .second)))
+      ∙ ap₂ (λ (a b : List A). a ++ b) (copies (p .firsts) (p .first) k ∙ sym (map-replicate entry (p .firsts) (p .first)))
+      (copies (p .seconds) (p .second) l ∙ sym (map-replicate entry (p .seconds) (p .second)))
+      ∙ sym (map-append entry (replicate (p .firsts) (p .first)) (replicate (p .seconds) (p .second)))
+
+  plan-inserts : (n : ℕ) (p : Plan) (ws : List ℕ) → Ready p n → mapRead (map val) (readBy (planRule p n) ws) ≡ inserting table z p n ws
+  plan-inserts n p ws ready =
+      let values : List ℤ = replicate (p .firsts) (codeValue (p .first)) ++ replicate (p .seconds) (codeValue (p .second)) in
+      let size : length values ≡ planned p = simp (length-append, length-replicate) in
+      let left : ℕ = n - length values in
+      let xs : List ℤ = replicate left (codeValue (p .fill)) in
+      ap (λ (k : ℕ). mapRead (map val) (mapRead (λ ss. insertEach values ss xs) (chooseEach (countUp (suc k) (length values)) ws)))
+      (sym (length-replicate left (codeValue (p .fill))))
+      ∙ ap (mapRead (map val)) (rule-inserts values xs ws)
+      ∙ map-insert val values xs ws
+      ∙ ap₂ (λ (vs ys : List A). insertAll vs ys ws) (inserted-values p (ready .first-code) (ready .second-code))
+      (copies left (p .fill) (ready .fill-code) ∙ ap (λ (k : ℕ). replicate (n - k) (getD table (p .fill) z)) size)
+
+  -- the answer of a draw by a plan is the rule's
+  plan-settles : (rule : Rule) (n : ℕ) (p : Plan) (count place : ℕ) (ws : List ℕ) → Planned rule n p
+      → placed z count place n (inserting table z p n ws) ≡ settled write count place n (readBy rule ws)
+  plan-settles rule n p count place ws of-rule =
+      ap (placed z count place n) (sym (plan-inserts n p ws (of-rule .ready)))
+      ∙ ap (λ (r : Rule). placed z count place n (mapRead (map val) (readBy r ws))) (of-rule .same)
+      ∙ sym (settled-placed count place n (readBy rule ws))
+
+  pub plan-draws : {rule : Rule} {p : Plan} {k : ℕ} {o : Outcome A} (words : List ℕ) (place weight : ℕ) (out : List A)
+      → k ≡ weightNumber (length words) place (length out) weight → k ≡ 0 → Planned rule (length out) p
+      → o ≡ placed z (length words) place (length out) (inserting table z p (length out) (drop place words))
+      → o ≡ ruleDraw write (badWeight weight (length out)) rule words place out
+  plan-draws {rule} {p} words place weight out number none of-rule e =
+      e ∙ plan-settles rule (length out) p (length words) place (drop place words) of-rule ∙ accepted write rule words place weight out number none

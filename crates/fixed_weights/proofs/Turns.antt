@@ -1,0 +1,175 @@
+-- A loop that inserts, over any kind of value: what is read from the words left now is what is read from those left at first.
+use mathlib.Core.Path.{_≡_, refl, sym, ap, ap₂, _∙_}
+use mathlib.Core.Bool.{Bool, true, false, cond}
+use mathlib.Core.List.{List, [], _∷_, _++_}
+use Prim.Native.Nat.{ℕ, zero, suc, _+_, _-_, _<_, _≤_}
+use native.Mathlib.Numerals.{add-one}
+use native.Mathlib.Omega.{arith}
+use lib.Dec.{ltb}
+use borrow.Author.Tests.{ltb-true, ltb-false}
+use lib.ListN.{length, getD, take, drop, set, replicate, length-set, length-replicate}
+use lib.Seq.{take-all, length-take-le}
+use Rattle.distr.specs.Words.{Read, got, short, choose}
+use Rattle.distr.specs.Draw.{Outcome}
+use Rattle.words.specs.declared.Taken.the-variants.{Got, Short}
+use Rattle.words.specs.Reading.{taken}
+use Rattle.words.proofs.Places.{place-of}
+use Rattle.words.proofs.Taking.{took-choice, chosen-below, taken-short}
+use Rattle.packed.specs.Table.{entries}
+use Rattle.fixed_weights.specs.declared.insertion.Plan.{Plan}
+use Rattle.fixed_weights.specs.Inserting.{insertedAt, insertAll, placed, planned, inserting}
+use Rattle.fixed_weights.proofs.Inserting.{stored-insertion, insert-next, insert-short}
+
+module _ {A : Type 0} (words : List ℕ) (n : ℕ) (goal : Read (List A)) where
+  -- i values are there, the words are read up to `at`, and `rest` is what is still to do
+  pub record Turn (rest : List A → List ℕ → Read (List A)) (i at : ℕ) (out : List A) : Type 0 where
+    pub reach : i ≤ n
+    pub size : length out ≡ n
+    pub within : at ≤ length words
+    pub reading : rest (take i out) (drop at words) ≡ goal
+
+  module _ (rest : List A → List ℕ → Read (List A)) (i at : ℕ) (out : List A) (now : Turn rest i at out) where
+    -- at the end nothing is left to do
+    pub turn-end : n ≤ i → ((xs : List A) (ws : List ℕ) → rest xs ws ≡ got xs ws) → goal ≡ got out (drop at words)
+    turn-end h e =
+        sym (now .reading) ∙ e (take i out) (drop at words)
+        ∙ ap (λ (t : List A). got t (drop at words)) (take-all i out (omega (arith, now .size)))
+
+    -- a chosen place is copied to i, and a value takes its place
+    pub turn-next : (later : List A → List ℕ → Read (List A)) (s next : ℕ) (v d : A) → i < n → s < i + 1 → next ≤ length words
+        → rest (take i out) (drop at words) ≡ later (insertedAt v (take i out) s) (drop next words)
+        → Turn later (i + 1) next (set (set out i (getD out s d)) s v)
+    turn-next later s next v d h l w e = record {
+      reach = omega arith;
+      size = simp length-set (now .size);
+      within = w;
+      reading = rw (add-one i)
+          (ap (λ (t : List A). later t (drop next words)) (stored-insertion out i s v d (omega (arith, now .size)) (omega arith))
+          ∙ sym e ∙ now .reading);
+    }
+
+-- the answer of a draw whose reading is known
+module _ {A : Type 0} (z : A) (words : List ℕ) (place n : ℕ) (goal : Read (List A)) where
+  pub placed-got : (at : ℕ) (out : List A) → at ≤ length words → goal ≡ got out (drop at words)
+      → _≡_ {A = Outcome A} (record { number = 0; place = at; output = out }) (placed z (length words) place n goal)
+  unfolding placed
+  placed-got at out h e = rw (e, place-of words at h)
+
+  pub placed-short : goal ≡ short → _≡_ {A = Outcome A} (record { number = 23; place = place; output = replicate n z }) (placed z (length words) place n goal)
+  unfolding placed
+  placed-short e = rw e
+
+-- the codes that a plan still inserts from index i on, the second from `split` on
+abbrev pub codesFrom : ℕ → ℕ → ℕ → ℕ → ℕ → List ℕ
+codesFrom first second split n i = replicate (split - i) first ++ replicate (n - i - (split - i)) second
+
+codes-same : (first second a b c d : ℕ) → a ≡ c → b ≡ d → replicate a first ++ replicate b second ≡ replicate c first ++ replicate d second
+codes-same first second a b c d e f = ap₂ (λ (k l : ℕ). replicate k first ++ replicate l second) e f
+
+codes-next : (first second split n i : ℕ) → split ≤ n → i < n
+    → codesFrom first second split n i ≡ cond (ltb i split) first second ∷ codesFrom first second split n (suc i)
+codes-next first second split n i s h = by-test (ltb i split) refl
+  where
+    by-test : (b : Bool) → ltb i split ≡ b → codesFrom first second split n i ≡ cond b first second ∷ codesFrom first second split n (suc i)
+    by-test true e =
+        let l = ltb-true i split e in
+        codes-same first second (split - i) (n - i - (split - i)) (suc (split - suc i)) (n - suc i - (split - suc i)) (omega arith) (omega arith)
+    by-test false e =
+        let l = ltb-false i split e in
+        codes-same first second (split - i) (n - i - (split - i)) 0 (suc (n - suc i - (split - suc i))) (omega arith) (omega arith)
+        ∙ ap (λ (cs : List ℕ). second ∷ cs)
+        (codes-same first second 0 (n - suc i - (split - suc i)) (split - suc i) (n - suc i - (split - suc i)) (omega arith) refl)
+
+codes-end : (first second split n i : ℕ) → split ≤ n → n ≤ i → codesFrom first second split n i ≡ []
+codes-end first second split n i s h = codes-same first second (split - i) (n - i - (split - i)) 0 0 (omega arith) (omega arith)
+
+pub cond-below : (b : Bool) {m n k : ℕ} → m < k → n < k → cond b m n < k
+cond-below true h l = h
+cond-below false h l = l
+
+pub take-replicate : {A : Type 0} (i n : ℕ) (a : A) → i ≤ n → take i (replicate n a) ≡ replicate i a
+take-replicate zero n a h = refl
+take-replicate (suc i) zero a h = absurd (omega arith)
+take-replicate (suc i) (suc n) a h = ap (λ (t : List _). a ∷ t) (take-replicate i n a (omega arith))
+
+module _ {A : Type 0} (z : A) (table : List A) (words : List ℕ) (n first second split : ℕ) where
+  -- what a plan inserts from index i on
+  abbrev still : ℕ → List A → List ℕ → Read (List A)
+  still i = insertAll (entries table z (codesFrom first second split n i))
+
+  -- a turn of the loop that inserts by a plan, begun at index `start` and `place` with copies of f
+  pub record Inserted (start place : ℕ) (f : A) (i at : ℕ) (out : List A) : Type 0 where
+    pub room : split ≤ n
+    pub turn : Turn words n (still start (replicate start f) (drop place words)) (still i) i at out
+
+-- at its start the loop wants the plan's reading
+wanted-by-plan : {A : Type 0} (z : A) (table : List A) (words : List ℕ) (n place : ℕ) (p : Plan) → planned p ≤ n
+    → still z table words n (p .first) (p .second) (n - p .seconds) (n - p .seconds - p .firsts)
+    (replicate (n - p .seconds - p .firsts) (getD table (p .fill) z)) (drop place words)
+    ≡ inserting table z p n (drop place words)
+wanted-by-plan z table words n place p h =
+    let start : n - p .seconds - p .firsts ≡ n - planned p = omega arith in
+    rw start
+    (ap (λ (cs : List ℕ). insertAll (entries table z cs) (replicate (n - planned p) (getD table (p .fill) z)) (drop place words))
+    (codes-same (p .first) (p .second) (n - p .seconds - (n - planned p)) (n - (n - planned p) - (n - p .seconds - (n - planned p))) (p .firsts) (p .seconds)
+    (omega arith) (omega arith)))
+
+module _ {A : Type 0} {z : A} {table : List A} {words : List ℕ} {n first second split start place : ℕ} {f : A} where
+  pub inserted-start : {out : List A} → split ≤ n → start ≤ split → place ≤ length words → out ≡ replicate n f
+      → Inserted z table words n first second split start place f start place out
+  inserted-start {out} r h w e = record {
+    room = r;
+    turn = record {
+      reach = omega arith;
+      size = ap length e ∙ length-replicate n f;
+      within = w;
+      reading = ap (λ (t : List A). still z table words n first second split start t (drop place words))
+          (ap (take start) e ∙ take-replicate start n f (omega arith));
+    };
+  }
+
+  module _ {i at : ℕ} {out : List A} (t : Inserted z table words n first second split start place f i at out) where
+    abbrev goal : Read (List A)
+    goal = still z table words n first second split start (replicate start f) (drop place words)
+
+    inserted-end : n ≤ i → goal ≡ got out (drop at words)
+    unfolding insertAll
+    inserted-end h =
+        turn-end words n goal _ i at out (t .turn) h (λ xs ws.
+        ap (λ (cs : List ℕ). insertAll (entries table z cs) xs ws) (codes-end first second split n i (t .room) h))
+
+    module _ (more : i < n) where
+      -- a value is to be inserted, at a choice among i + 1
+      inserts : still z table words n first second split i (take i out) (drop at words)
+          ≡ insertAll (getD table (cond (ltb i split) first second) z ∷ entries table z (codesFrom first second split n (suc i))) (take i out) (drop at words)
+      inserts = ap (λ (cs : List ℕ). insertAll (entries table z cs) (take i out) (drop at words)) (codes-next first second split n i (t .room) more)
+
+      choice : choose (suc (length (take i out))) (drop at words) ≡ choose (i + 1) (drop at words)
+      choice = ap (λ (k : ℕ). choose k (drop at words)) (omega (arith, length-take-le i out (omega (arith, t .turn .size))))
+
+      pub inserted-next : {s next code : ℕ} {out′ : List A} → Got s next ≡ taken (length words) (choose (i + 1) (drop at words))
+          → code ≡ cond (ltb i split) first second → out′ ≡ set (set out i (getD out s z)) s (getD table code z)
+          → Inserted z table words n first second split start place f (i + 1) next out′
+      inserted-next {s} {next} {code} {out′} e c o =
+          let chosen = took-choice words at s next (i + 1) e in
+          rw o
+          (record {
+            room = t .room;
+            turn = turn-next words n goal _ i at out (t .turn) _ s next (getD table code z) z more (chosen-below words at s next (i + 1) e) (chosen .within)
+                (rw (add-one i, c) (inserts ∙ insert-next _ _ (take i out) (drop at words) s (drop next words) (choice ∙ chosen .reads)));
+          })
+
+      inserted-short : Short ≡ taken (length words) (choose (i + 1) (drop at words)) → goal ≡ short
+      inserted-short e =
+          sym (t .turn .reading) ∙ inserts ∙ insert-short _ _ (take i out) (drop at words) (choice ∙ taken-short (length words) (choose (i + 1) (drop at words)) e)
+
+-- the answer of the loop that inserts by a plan
+module _ {A : Type 0} {z : A} {table : List A} {words : List ℕ} {n place : ℕ} (p : Plan) (room : planned p ≤ n) {i at : ℕ} {out : List A}
+    (t : Inserted z table words n (p .first) (p .second) (n - p .seconds) (n - p .seconds - p .firsts) place (getD table (p .fill) z) i at out) where
+  pub plan-done : n ≤ i → _≡_ {A = Outcome A} (record { number = 0; place = at; output = out }) (placed z (length words) place n (inserting table z p n (drop place words)))
+  plan-done h = placed-got z words place n _ at out (t .turn .within) (sym (wanted-by-plan z table words n place p room) ∙ inserted-end t h)
+
+  pub plan-short : {out′ : List A} → i < n → Short ≡ taken (length words) (choose (i + 1) (drop at words)) → out′ ≡ replicate (length out) z
+      → _≡_ {A = Outcome A} (record { number = 23; place = place; output = out′ }) (placed z (length words) place n (inserting table z p n (drop place words)))
+  plan-short h e o = rw (o, t .turn .size)
+      (placed-short z words place n _ (sym (wanted-by-plan z table words n place p room) ∙ inserted-short t h e))

@@ -1,0 +1,171 @@
+-- The whole answer of a draw by one rule: refused early, short of words, or drawn, over how the output holds coefficients.
+use mathlib.Core.Path.{_≡_, refl, sym, ap, ap₂, _∙_}
+use mathlib.Core.Bool.{Bool, true, false}
+use mathlib.Core.List.{List, [], _∷_, _++_, map}
+use Prim.Native.Nat.{ℕ, zero, suc, _+_, _-_, _*_, _/_, _%_, _<_, _≤_}
+use native.Mathlib.Nat.{mod-lt, sub-zero}
+use native.Mathlib.Omega.{arith}
+use borrow.Author.Tests.{ltb-false, le-leb, lt-leb, ne-eqb}
+use lib.Dec.{ltb}
+use lib.ListN.{length, take, drop, replicate, length-drop}
+use lib.IntN.{ℤ, pos, +ℤ-idr}
+use Rattle.distr.specs.Words.{Read, got, short, mapRead}
+use Rattle.distr.specs.Rule.{Rule, readBy}
+use Rattle.distr.specs.Packed.{digits, split, packed, minusOne}
+use Rattle.distr.specs.UniformTernary.{bytes, uniformTernary, tritValue}
+use Rattle.distr.specs.Encoding.{encodeWith, signedWith}
+use Rattle.distr.specs.Numbers.{firstOf, pastEnd, tooLong}
+use Rattle.distr.specs.Draw.{judged, ruleDraw}
+use Rattle.distr.proofs.Reading.{many-word}
+use Rattle.distr.proofs.Writing.{map-append, map-map, map-replicate, map-take}
+use Rattle.distr.proofs.Drawing.{rule-got, rule-short}
+use Rattle.packed.proofs.Packing.{enough}
+
+-- The numbers tried before a draw looks at its words.
+abbrev pub earlyNumber : ℕ → ℕ → ℕ → ℕ
+earlyNumber count place n = firstOf (pastEnd count place ∷ tooLong n ∷ 0 ∷ [])
+
+-- 0 says that the place and the length are good
+pub early-passed : (count place n : ℕ) {k : ℕ} → k ≡ earlyNumber count place n → k ≡ 0 → (place ≤ count) × (n ≤ 65536)
+unfolding firstOf
+early-passed count place n {k} e z = go (ltb count place) (ltb 65536 n) refl refl
+  where
+    go : (a b : Bool) → ltb count place ≡ a → ltb 65536 n ≡ b → (place ≤ count) × (n ≤ 65536)
+    go true true p q = let twenty-two : k ≡ 22 = rw p at e in omega arith
+    go true false p q = let twenty-two : k ≡ 22 = rw p at e in omega arith
+    go false true p q = let six : k ≡ 6 = rw (p, q) at e in omega arith
+    go false false p q = (ltb-false count place p, ltb-false 65536 n q)
+
+-- the table's entries are the values of digits below the base
+module _ {A : Type 0} (base : ℕ) (g h : ℕ → A) (positive : 0 < base) (same : (d : ℕ) → d < base → g d ≡ h d) where
+  map-digits : (count x : ℕ) → map g (digits base count x) ≡ map h (digits base count x)
+  unfolding digits
+  map-digits zero x = refl
+  map-digits (suc count) x = ap₂ (λ (a : A) (as′ : List A). a ∷ as′) (same (x % base) (mod-lt x positive)) (map-digits count (x / base))
+
+  map-split : (count : ℕ) (xs : List ℕ) → map g (split base count xs) ≡ map h (split base count xs)
+  unfolding split
+  map-split count [] = refl
+  map-split count (x ∷ xs) =
+      map-append g (digits base count x) (split base count xs)
+      ∙ ap₂ (λ (a b : List A). a ++ b) (map-digits count x) (map-split count xs)
+      ∙ sym (map-append h (digits base count x) (split base count xs))
+
+  map-taken : (n count : ℕ) (xs : List ℕ) → map g (take n (split base count xs)) ≡ map h (take n (split base count xs))
+  map-taken n count xs =
+      map-take g n (split base count xs) ∙ ap (take n) (map-split count xs) ∙ sym (map-take h n (split base count xs))
+
+module _ {A : Type 0} (write : List ℤ → List A) (f : ℤ → A) (writes : (cs : List ℤ) → write cs ≡ map f cs)
+    (rule : Rule) (words : List ℕ) (place : ℕ) (out : List A) where
+  -- 22 or 6: nothing changes
+  pub refused : {k : ℕ} → k ≡ earlyNumber (length words) place (length out) → (k ≡ 0 → ⊥)
+      → record { number = k; place = place; output = out } ≡ ruleDraw write 0 rule words place out
+  unfolding ruleDraw judged
+  refused {k} e ne = rw (← e, ne-eqb k 0 ne)
+
+  module _ {k : ℕ} (early : k ≡ earlyNumber (length words) place (length out)) (good : k ≡ 0) where
+    -- 23: the place stays, and the output is zeros
+    pub lacking : {out′ : List A} → readBy rule (drop place words) ≡ short → out′ ≡ replicate (length out) (f (pos 0))
+        → record { number = 23; place = place; output = out′ } ≡ ruleDraw write 0 rule words place out
+    lacking e o =
+        let passed = early-passed (length words) place (length out) early good in
+        ap (λ (l : List A). record { number = 23; place = place; output = l }) (o ∙ sym (map-replicate f (length out) (pos 0)) ∙ sym (writes _))
+        ∙ sym (rule-short write 0 rule words place out (passed .0) (passed .1) refl e)
+
+    -- 0: the place after the words read, and the coefficients as the output holds them
+    pub reached : (cs : List ℤ) (rest : List ℕ) {out′ : List A} {at : ℕ} → readBy rule (drop place words) ≡ got cs rest
+        → at ≡ length words - length rest → out′ ≡ map f cs → record { number = 0; place = at; output = out′ } ≡ ruleDraw write 0 rule words place out
+    reached cs rest e p o =
+        let passed = early-passed (length words) place (length out) early good in
+        ap₂ (λ (j : ℕ) (l : List A). record { number = 0; place = j; output = l }) p (o ∙ sym (writes cs))
+        ∙ sym (rule-got write 0 rule words place out (passed .0) (passed .1) refl cs rest e)
+
+-- Draws packed into m words: the test of their number decides.
+module _ {A : Type 0} (write : List ℤ → List A) (f : ℤ → A) (writes : (cs : List ℤ) → write cs ≡ map f cs)
+    (base each m : ℕ) (value : ℕ → ℤ) (words : List ℕ) (place : ℕ) (out : List A)
+    {k : ℕ} (early : k ≡ earlyNumber (length words) place (length out)) (good : k ≡ 0) where
+  pub packed-lacking : {needed : ℕ} {out′ : List A} → needed ≡ m → length words - place < needed → out′ ≡ replicate (length out) (f (pos 0))
+      → record { number = 23; place = place; output = out′ } ≡ ruleDraw write 0 (packed base each m (length out) value) words place out
+  unfolding mapRead
+  packed-lacking e l o =
+      lacking write f writes (packed base each m (length out) value) words place out early good
+      (rw (many-word m (drop place words), lt-leb m (length (drop place words)) (rw (length-drop place words) (omega arith)))) o
+
+  pub packed-reached : (entry : ℕ → A) {needed : ℕ} {out′ : List A} → 0 < base → ((d : ℕ) → d < base → entry d ≡ f (value d))
+      → needed ≡ m → needed ≤ length words - place → length out ≤ m * each → out′ ≡ map entry (take (length out) (split base each (drop place words)))
+      → record { number = 0; place = place + needed; output = out′ } ≡ ruleDraw write 0 (packed base each m (length out) value) words place out
+  unfolding mapRead
+  packed-reached entry b agree e l fits o =
+      let passed = early-passed (length words) place (length out) early good in
+      let n : ℕ = length out in
+      let ws : List ℕ = drop place words in
+      let there : m ≤ length ws = rw (length-drop place words) (omega arith) in
+      let held : ℕ → A = λ d. f (value d) in
+      reached write f writes (packed base each m n value) words place out early good
+      (map value (take n (split base each (take m ws)))) (drop m ws)
+      (rw (many-word m ws, le-leb m (length ws) there))
+      (rw (length-drop m ws, length-drop place words) (omega arith))
+      (o
+      ∙ map-taken base entry held b agree n each ws
+      ∙ ap (map held) (sym (enough base each m n ws fits))
+      ∙ sym (map-map f value (take n (split base each (take m ws)))))
+
+-- Trits out of bytes: where the reading of bytes stopped decides.
+module _ {A : Type 0} (write : List ℤ → List A) (f : ℤ → A) (writes : (cs : List ℤ) → write cs ≡ map f cs)
+    (words : List ℕ) (place : ℕ) (out : List A) {k : ℕ} (early : k ≡ earlyNumber (length words) place (length out)) (good : k ≡ 0)
+    (entry : ℕ → A) where
+  -- the digits of the bytes read, looked up in the table
+  abbrev tritsRead : Read (List ℕ) → Read (List A)
+  tritsRead r = mapRead (λ ds. map entry (take (length out) (split 3 5 ds))) r
+
+  abbrev bytesRead : Read (List ℕ)
+  bytesRead = bytes (drop place words) ((length out + 4) / 5)
+
+  pub trits-lacking : {out′ : List A} → short ≡ tritsRead bytesRead → out′ ≡ replicate (length out) (f (pos 0))
+      → record { number = 23; place = place; output = out′ } ≡ ruleDraw write 0 (uniformTernary (length out)) words place out
+  unfolding mapRead
+  trits-lacking e o = lacking write f writes (uniformTernary (length out)) words place out early good (go bytesRead e) o
+    where
+      go : (r : Read (List ℕ)) → short ≡ tritsRead r → mapRead (λ ds. map tritValue (take (length out) (split 3 5 ds))) r ≡ short
+      go (got ds rest) p = let never : _≡_ {A = ℕ} 0 1 = cc in absurd (omega arith)
+      go short p = refl
+
+  pub trits-reached : {out′ : List A} {at : ℕ} → ((d : ℕ) → d < 3 → entry d ≡ f (tritValue d)) → at ≤ length words
+      → got out′ (drop at words) ≡ tritsRead bytesRead
+      → record { number = 0; place = at; output = out′ } ≡ ruleDraw write 0 (uniformTernary (length out)) words place out
+  unfolding mapRead
+  trits-reached {out′} {at} agree h e = go bytesRead refl e
+    where
+      go : (r : Read (List ℕ)) → bytesRead ≡ r → got out′ (drop at words) ≡ tritsRead r
+          → record { number = 0; place = at; output = out′ } ≡ ruleDraw write 0 (uniformTernary (length out)) words place out
+      go (got ds rest) b p =
+          let n : ℕ = length out in
+          let held : ℕ → A = λ d. f (tritValue d) in
+          let stopped : rest ≡ drop at words = cc in
+          let filled : out′ ≡ map entry (take n (split 3 5 ds)) = cc in
+          reached write f writes (uniformTernary n) words place out early good (map tritValue (take n (split 3 5 ds))) rest
+          (ap (mapRead (λ ds′. map tritValue (take n (split 3 5 ds′)))) b)
+          (rw (stopped, length-drop at words) (omega arith))
+          (filled ∙ map-taken 3 entry held (omega arith) agree n 5 ds ∙ sym (map-map f tritValue (take n (split 3 5 ds))))
+      go short b p = let never : _≡_ {A = ℕ} 0 1 = cc in absurd (omega arith)
+
+-- A claim about the digits below two, three and four, one by one.
+pub below-two : (P : ℕ → Type 0) → P 0 → P 1 → (d : ℕ) → d < 2 → P d
+below-two P p₀ p₁ zero h = p₀
+below-two P p₀ p₁ (suc zero) h = p₁
+below-two P p₀ p₁ (suc (suc d)) h = absurd (omega arith)
+
+pub below-three : (P : ℕ → Type 0) → P 0 → P 1 → P 2 → (d : ℕ) → d < 3 → P d
+below-three P p₀ p₁ p₂ zero h = p₀
+below-three P p₀ p₁ p₂ (suc d) h = below-two (λ k. P (suc k)) p₁ p₂ d (omega arith)
+
+pub below-four : (P : ℕ → Type 0) → P 0 → P 1 → P 2 → P 3 → (d : ℕ) → d < 4 → P d
+below-four P p₀ p₁ p₂ p₃ zero h = p₀
+below-four P p₀ p₁ p₂ p₃ (suc d) h = below-three (λ k. P (suc k)) p₁ p₂ p₃ d (omega arith)
+
+-- −1 is held as the caller holds it.
+pub signed-minus : (minus : ℤ) → minus ≡ signedWith minus minusOne
+signed-minus minus = sym (+ℤ-idr minus)
+
+pub encoded-minus : (minus : ℕ) → minus ≡ encodeWith minus minusOne
+encoded-minus minus = sym (sub-zero minus)

@@ -1,0 +1,5 @@
+-- Laws that the proofs of this crate share, over the element type of the output.
+pub mod Storing
+pub mod Packing
+pub mod Deciding
+pub mod Going

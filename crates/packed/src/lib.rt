@@ -1,0 +1,8 @@
+// The draws that need no sampler: values written straight from lent words, as the Rust's module `common` has them.
+pub mod binary;
+mod bytes;
+mod needed;
+mod refusal;
+mod stores_i64;
+mod stores_u64;
+pub mod ternary;

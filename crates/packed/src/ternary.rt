@@ -1,0 +1,181 @@
+// Ternary values straight from the words; `minus_one` is how the caller holds −1.
+use crate::needed;
+use crate::refusal;
+use crate::stores_i64;
+use crate::stores_u64;
+use distr::answer::Answer;
+ghost use mathlib.Core.Path.{_≡_};
+ghost use mathlib.Core.List.{map};
+ghost use lib.ListN.{length};
+ghost use Rattle.distr.specs.Packed.{sparseTernary, signsAlone};
+ghost use Rattle.distr.specs.UniformTernary.{uniformTernary};
+ghost use Rattle.distr.specs.Encoding.{encodeWith, signedWith};
+ghost use Rattle.distr.specs.Draw.{outcome, ruleDraw};
+
+// Sparse ternary values: 16 two-bit groups a word, lowest first, standing for 0, 0, 1 and −1.
+pub fn sample_sparse_ternary_values_to_i64(
+    result: &mut [i64],
+    minus_one: i64,
+    words: &[u32],
+    place: usize,
+) -> Answer
+    ensures { λ r. ⌜ outcome r (now (result .exit))
+        ≡ ruleDraw (map (signedWith «minus_one»)) 0 (sparseTernary (length (now (result .entry)))) (now (words .entry)) place (now (result .entry)) ⌝ }
+{
+    let n = result.len();
+    let count = words.len();
+    let number = refusal::early_number(count, place, n);
+    if number != 0 {
+        return Answer { number, place };
+    }
+    let words_needed = needed::sparse_words(n);
+    if count - place < words_needed {
+        fill::clear_i64(result);
+        return Answer { number: 23, place };
+    }
+    let table: [i64; 4] = [0, 0, 1, minus_one];
+    stores_i64::fill_pairs(result, &table, words, place);
+    Answer {
+        number: 0,
+        place: place + words_needed,
+    }
+}
+
+// The same for unsigned output.
+pub fn sample_sparse_ternary_values_to_u64(
+    result: &mut [u64],
+    minus_one: u64,
+    words: &[u32],
+    place: usize,
+) -> Answer
+    ensures { λ r. ⌜ outcome r (now (result .exit))
+        ≡ ruleDraw (map (encodeWith «minus_one»)) 0 (sparseTernary (length (now (result .entry)))) (now (words .entry)) place (now (result .entry)) ⌝ }
+{
+    let n = result.len();
+    let count = words.len();
+    let number = refusal::early_number(count, place, n);
+    if number != 0 {
+        return Answer { number, place };
+    }
+    let words_needed = needed::sparse_words(n);
+    if count - place < words_needed {
+        fill::clear_u64(result);
+        return Answer { number: 23, place };
+    }
+    let table: [u64; 4] = [0, 0, 1, minus_one];
+    stores_u64::fill_pairs(result, &table, words, place);
+    Answer {
+        number: 0,
+        place: place + words_needed,
+    }
+}
+
+// Uniform ternary values: a byte below 243 holds five base-3 digits, lowest first, standing for −1, 0 and 1; others are skipped.
+pub fn sample_uniform_ternary_values_to_i64(
+    result: &mut [i64],
+    minus_one: i64,
+    words: &[u32],
+    place: usize,
+) -> Answer
+    ensures { λ r. ⌜ outcome r (now (result .exit))
+        ≡ ruleDraw (map (signedWith «minus_one»)) 0 (uniformTernary (length (now (result .entry)))) (now (words .entry)) place (now (result .entry)) ⌝ }
+{
+    let number = refusal::early_number(words.len(), place, result.len());
+    if number != 0 {
+        return Answer { number, place };
+    }
+    let table: [i64; 3] = [minus_one, 0, 1];
+    let reached = stores_i64::fill_trits(result, &table, words, place);
+    if reached.found {
+        return Answer {
+            number: 0,
+            place: reached.place,
+        };
+    }
+    fill::clear_i64(result);
+    Answer { number: 23, place }
+}
+
+// The same for unsigned output.
+pub fn sample_uniform_ternary_values_to_u64(
+    result: &mut [u64],
+    minus_one: u64,
+    words: &[u32],
+    place: usize,
+) -> Answer
+    ensures { λ r. ⌜ outcome r (now (result .exit))
+        ≡ ruleDraw (map (encodeWith «minus_one»)) 0 (uniformTernary (length (now (result .entry)))) (now (words .entry)) place (now (result .entry)) ⌝ }
+{
+    let number = refusal::early_number(words.len(), place, result.len());
+    if number != 0 {
+        return Answer { number, place };
+    }
+    let table: [u64; 3] = [minus_one, 0, 1];
+    let reached = stores_u64::fill_trits(result, &table, words, place);
+    if reached.found {
+        return Answer {
+            number: 0,
+            place: reached.place,
+        };
+    }
+    fill::clear_u64(result);
+    Answer { number: 23, place }
+}
+
+// Signs alone, for a key without a 0: 32 bits a word, lowest first, 1 for 1 and 0 for −1.
+pub fn sample_signs_to_i64(
+    result: &mut [i64],
+    minus_one: i64,
+    words: &[u32],
+    place: usize,
+) -> Answer
+    ensures { λ r. ⌜ outcome r (now (result .exit))
+        ≡ ruleDraw (map (signedWith «minus_one»)) 0 (signsAlone (length (now (result .entry)))) (now (words .entry)) place (now (result .entry)) ⌝ }
+{
+    let n = result.len();
+    let count = words.len();
+    let number = refusal::early_number(count, place, n);
+    if number != 0 {
+        return Answer { number, place };
+    }
+    let words_needed = needed::sign_words(n);
+    if count - place < words_needed {
+        fill::clear_i64(result);
+        return Answer { number: 23, place };
+    }
+    let table: [i64; 2] = [minus_one, 1];
+    stores_i64::fill_bits(result, &table, words, place);
+    Answer {
+        number: 0,
+        place: place + words_needed,
+    }
+}
+
+// The same for unsigned output.
+pub fn sample_signs_to_u64(
+    result: &mut [u64],
+    minus_one: u64,
+    words: &[u32],
+    place: usize,
+) -> Answer
+    ensures { λ r. ⌜ outcome r (now (result .exit))
+        ≡ ruleDraw (map (encodeWith «minus_one»)) 0 (signsAlone (length (now (result .entry)))) (now (words .entry)) place (now (result .entry)) ⌝ }
+{
+    let n = result.len();
+    let count = words.len();
+    let number = refusal::early_number(count, place, n);
+    if number != 0 {
+        return Answer { number, place };
+    }
+    let words_needed = needed::sign_words(n);
+    if count - place < words_needed {
+        fill::clear_u64(result);
+        return Answer { number: 23, place };
+    }
+    let table: [u64; 2] = [minus_one, 1];
+    stores_u64::fill_bits(result, &table, words, place);
+    Answer {
+        number: 0,
+        place: place + words_needed,
+    }
+}
