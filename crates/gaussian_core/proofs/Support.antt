@@ -96,23 +96,28 @@ module _ (d : Float) (d-positive : T (positive d)) (d-least : T (le smallest d))
           (mul-mono binary64 d d tailCut d d-positive d-positive tail-positive d-positive (le-self d d-positive)
           (cross→le tailCut d tail-positive d-positive (ltb-false (num d * den tailCut) (num tailCut * den d) h)))
 
-or-false : (a b : Bool) → (a || b) ≡ false → (a ≡ false) × (b ≡ false)
+pub or-false : (a b : Bool) → (a || b) ≡ false → (a ≡ false) × (b ≡ false)
 or-false true b h = absurd (true≢false h)
 or-false false b h = (refl, h)
 
 pub is-so : (b : Bool) → not b ≡ false → T b
 is-so b h = subst T (sym (not-false b h)) tt
 
--- The definition's tests, taken apart.
-pub product-positive : (d : Float) → badDeviation d ≡ false → T (positive (product d))
-product-positive d h =
+-- The definition's tests, taken apart: an accepted deviation is 0.7 at least, and its square is finite.
+accepted : (d : Float) → badDeviation d ≡ false → AtLeast smallest d × T (finite (mul binary64 d d))
+accepted d h =
     let square = mul binary64 d d in
     let low = not (finite d) || lt d smallest in
     let first = or-false (low || not (finite square)) (not (finite (mul binary64 (literal 2 1) square))) h .0 in
     let second = or-false low (not (finite square)) first in
     let third = or-false (not (finite d)) (lt d smallest) (second .0) in
-    let known = not-below d smallest (is-so (finite d) (third .0)) smallest-positive (third .1) in
-    bounded d (known .above-zero) (known .no-less) (is-so (finite square) (second .1))
+    (not-below d smallest (is-so (finite d) (third .0)) smallest-positive (third .1), is-so (finite square) (second .1))
+
+pub deviation-positive : (d : Float) → badDeviation d ≡ false → T (positive d)
+deviation-positive d h = accepted d h .0 .above-zero
+
+pub product-positive : (d : Float) → badDeviation d ≡ false → T (positive (product d))
+product-positive d h = let known = accepted d h in bounded d (known .0 .above-zero) (known .0 .no-less) (known .1)
 
 -- A number above zero that is not below 2 ^ w has a whole part of 2 ^ w at least.
 pub not-below-power : (w : ℕ) (x : Float) → T (positive x) → lt x (power w) ≡ false → 2 ^ w ≤ num x / den x

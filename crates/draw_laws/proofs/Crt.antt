@@ -1,0 +1,148 @@
+-- The answers of a CRT draw: its refusals in their order, the empty output, and what the rules settle; and the encoded centered binomial.
+use mathlib.Core.Path.{_≡_, refl, _∙_}
+use mathlib.Core.Bool.{Bool, true, false, not, cond, _&&_, _||_}
+use mathlib.Core.List.{List, [], _∷_, _++_, map, append-nil}
+use Prim.Native.Nat.{ℕ, _*_, _-_, _^_, _<_, _≤_}
+use native.Mathlib.Omega.{arith}
+use borrow.Author.Tests.{eqb-true, ltb-false, lt-ltb, le-ltb, eq-eqb, ne-eqb}
+use lib.Dec.{ltb, eqb}
+use lib.ListN.{length, drop, replicate}
+use lib.IntN.{ℤ, pos}
+use lib.Ieee.{Float}
+use Rattle.distr.specs.declared.secret_key_distr.SecretKeyDistr.the-variants.{Gaussian}
+use Rattle.distr.specs.declared.error_distribution.ErrorDistribution.the-variants.{CenteredBinomial, Gaussian as ErrorGaussian}
+use Rattle.distr.specs.Rule.{readBy}
+use Rattle.distr.specs.CenteredBinomial.{centeredBinomial}
+use Rattle.distr.specs.Gaussian.{support}
+use Rattle.distr.specs.Distribution.{Distr, secret, error, Tables, onDeviation, errorRule, rule, gaussianRead, coefficients}
+use Rattle.distr.specs.Encoding.{encode, rows}
+use Rattle.distr.specs.Making.{refuse, largest}
+use Rattle.distr.specs.Numbers.{firstOf, stateNumbers, crtNumbers, servesCrt, shapeNumber, tooLong, moduliNumbers, tableNumber}
+use Rattle.distr.specs.Draw.{settled, judged, crtDraw, encodedDraw}
+use Rattle.draw_laws.proofs.Joining.{first-before, first-within, first-after, refused, settled-same}
+
+-- The numbers of a CRT output and of its moduli.
+abbrev pub layoutNumbers : ℕ → ℕ → ℕ → List ℕ → List ℕ
+layoutNumbers most n count moduli = shapeNumber n count (length moduli) ∷ tooLong n ∷ moduliNumbers most moduli
+
+-- what such numbers say, where none refuses
+pub record Layout (most n count : ℕ) (moduli : List ℕ) : Type 0 where
+  pub shape : n ≡ count * length moduli
+  pub few : n ≤ 65536
+  pub above : firstOf (moduliNumbers most moduli) ≡ 0
+
+pub layout-passed : (most n count : ℕ) (moduli : List ℕ) → firstOf (layoutNumbers most n count moduli) ≡ 0 → Layout most n count moduli
+unfolding firstOf
+layout-passed most n count moduli = go (eqb n (count * length moduli)) (ltb (2 ^ 64 - 1) (count * length moduli)) (ltb 65536 n) refl refl
+  where
+    go : (same large long : Bool) → eqb n (count * length moduli) ≡ same → ltb 65536 n ≡ long
+        → firstOf (refuse (not same || large) 11 ∷ refuse long 6 ∷ moduliNumbers most moduli) ≡ 0 → Layout most n count moduli
+    go true false false e f z = record { shape = eqb-true n (count * length moduli) e; few = ltb-false 65536 n f; above = z }
+    go true false true e f z = absurd (omega arith)
+    go true true long e f z = absurd (omega arith)
+    go false large long e f z = absurd (omega arith)
+
+same-either : {A : Type 0} (b : Bool) (x y z : A) → x ≡ z → y ≡ z → cond b x y ≡ z
+same-either true x y z e f = e
+same-either false x y z e f = f
+
+module _ (d : Distr) (tables : Tables) (count : ℕ) (moduli words : List ℕ) (place : ℕ) (out : List ℕ) where
+  numbers : Bool → List ℕ
+  numbers made = stateNumbers (made && servesCrt d) (length words) place ++ crtNumbers d tables (length out) count moduli
+
+  -- a first number above 0 is the answer, whether or not the output is empty
+  crt-refused : (made : Bool) {k : ℕ} → firstOf (numbers made) ≡ k → 0 < k
+      → crtDraw made d tables count moduli words place out ≡ record { number = k; place = place; output = out }
+  unfolding crtDraw numbers
+  crt-refused made {k} e h =
+      same-either (eqb (length out) 0) _ _ _ (refused (numbers made) place out _ e h) (refused (numbers made) place out _ e h)
+
+  -- 21: a sampler that making never gives, or a distribution that CRT draws do not serve
+  pub crt-unmade : (made : Bool) → (made && servesCrt d) ≡ false
+      → crtDraw made d tables count moduli words place out ≡ record { number = 21; place = place; output = out }
+  unfolding firstOf numbers
+  crt-unmade made e = crt-refused made (rw e) (omega arith)
+
+  module _ (serves : servesCrt d ≡ true) where
+    -- 22
+    pub crt-past-end : length words < place → crtDraw true d tables count moduli words place out ≡ record { number = 22; place = place; output = out }
+    unfolding firstOf numbers
+    crt-past-end h = crt-refused true (rw (serves, lt-ltb (length words) place h)) (omega arith)
+
+    module _ (here : place ≤ length words) where
+      -- the numbers of the layout decide, and then the tables'
+      passed : firstOf (numbers true) ≡ firstOf (layoutNumbers (largest d) (length out) count moduli ++ (tableNumber d tables ∷ []))
+      unfolding firstOf numbers
+      passed = rw (serves, le-ltb (length words) place here)
+
+      -- 11, 6, 10 or 9
+      pub crt-layout : 0 < firstOf (layoutNumbers (largest d) (length out) count moduli)
+          → crtDraw true d tables count moduli words place out
+          ≡ record { number = firstOf (layoutNumbers (largest d) (length out) count moduli); place = place; output = out }
+      crt-layout h = crt-refused true (passed ∙ first-within (layoutNumbers (largest d) (length out) count moduli) (tableNumber d tables ∷ []) h) h
+
+      module _ (good : firstOf (layoutNumbers (largest d) (length out) count moduli) ≡ 0) where
+        last-number : firstOf (numbers true) ≡ tableNumber d tables
+        unfolding firstOf
+        last-number =
+            passed ∙ first-after (layoutNumbers (largest d) (length out) count moduli) (tableNumber d tables ∷ []) good
+            ∙ first-before (tableNumber d tables) [] refl
+
+        -- 12 or 13
+        pub crt-table : 0 < tableNumber d tables
+            → crtDraw true d tables count moduli words place out ≡ record { number = tableNumber d tables; place = place; output = out }
+        crt-table h = crt-refused true last-number h
+
+        module _ (table : tableNumber d tables ≡ 0) where
+          -- an empty output succeeds and reads nothing
+          pub crt-empty : length out ≡ 0
+              → crtDraw true d tables count moduli words place out ≡ record { number = 0; place = place; output = out }
+          unfolding crtDraw numbers judged
+          crt-empty e = rw (last-number, table, eq-eqb (length out) 0 e)
+
+          -- another is what the rules settle
+          pub crt-settled : 0 < length out
+              → crtDraw true d tables count moduli words place out
+              ≡ settled (rows moduli) (length words) place count (coefficients d count tables (drop place words))
+          unfolding crtDraw numbers judged
+          crt-settled h = rw (last-number, table, ne-eqb (length out) 0 (λ e. omega arith))
+
+-- the coefficients of the distributions that CRT draws serve
+pub coefficients-gaussian : (deviation : Float) (n : ℕ) (tables : Tables) (ws : List ℕ)
+    → coefficients (secret (Gaussian deviation)) n tables ws ≡ gaussianRead deviation (support deviation) tables n ws
+unfolding coefficients onDeviation
+coefficients-gaussian deviation n tables ws = refl
+
+pub coefficients-error-gaussian : (deviation : Float) (n : ℕ) (tables : Tables) (ws : List ℕ)
+    → coefficients (error (ErrorGaussian deviation)) n tables ws ≡ gaussianRead deviation (support deviation) tables n ws
+unfolding coefficients onDeviation
+coefficients-error-gaussian deviation n tables ws = refl
+
+pub coefficients-binomial : (eta n : ℕ) (tables : Tables) (ws : List ℕ)
+    → coefficients (error (CenteredBinomial eta)) n tables ws ≡ readBy (centeredBinomial eta n) ws
+unfolding coefficients onDeviation rule errorRule
+coefficients-binomial eta n tables ws = refl
+
+-- the row of one modulus
+pub rows-one : (q : ℕ) (cs : List ℤ) → rows (q ∷ []) cs ≡ map (encode q) cs
+unfolding rows
+rows-one q cs = append-nil (map (encode q) cs)
+
+module _ (eta : ℕ) (tables : Tables) (q : ℕ) (words : List ℕ) (place : ℕ) (out : List ℕ) where
+  -- an encoded centered binomial is a CRT draw of one modulus
+  pub encoded-binomial-crt : (made : Bool)
+      → encodedDraw made (error (CenteredBinomial eta)) tables q words place out
+      ≡ crtDraw made (error (CenteredBinomial eta)) tables (length out) (q ∷ []) words place out
+  unfolding encodedDraw
+  encoded-binomial-crt made = refl
+
+  -- what it settles, with no number against it
+  pub encoded-binomial-settled : place ≤ length words → firstOf (layoutNumbers eta (length out) (length out) (q ∷ [])) ≡ 0 → 0 < length out
+      → encodedDraw true (error (CenteredBinomial eta)) tables q words place out
+      ≡ settled (map (encode q)) (length words) place (length out) (readBy (centeredBinomial eta (length out)) (drop place words))
+  unfolding servesCrt tableNumber onDeviation largest coefficients rule errorRule
+  encoded-binomial-settled here good h =
+      encoded-binomial-crt true
+      ∙ crt-settled (error (CenteredBinomial eta)) tables (length out) (q ∷ []) words place out refl here good refl h
+      ∙ settled-same (rows (q ∷ [])) (map (encode q)) words place out (readBy (centeredBinomial eta (length out)) (drop place words))
+      (λ cs rest e. rows-one q cs) (rows-one q (replicate (length out) (pos 0)))

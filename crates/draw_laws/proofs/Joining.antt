@@ -1,0 +1,64 @@
+-- From the answer of a draw without a sampler to that of a sampler's draw: the same first number, and the same elements written.
+use mathlib.Core.Path.{_≡_, refl, ap}
+use mathlib.Core.Bool.{true}
+use mathlib.Core.List.{List, [], _∷_, _++_}
+use Prim.Native.Nat.{ℕ, zero, suc, _<_}
+use native.Mathlib.Nat.{not-suc-le-zero}
+use native.Mathlib.Omega.{arith}
+use borrow.Author.Tests.{ne-eqb}
+use lib.ListN.{length, drop, replicate}
+use lib.IntN.{ℤ, pos}
+use Rattle.distr.specs.Words.{Read, got, short}
+use Rattle.distr.specs.Numbers.{firstOf, stateNumbers, tooLong, pastEnd}
+use Rattle.distr.specs.Draw.{Outcome, settled, judged, drawn, readDraw}
+
+-- a number before others that do not refuse is the first
+pub first-before : (k : ℕ) (ns : List ℕ) → firstOf ns ≡ 0 → firstOf (k ∷ ns) ≡ k
+unfolding firstOf
+first-before zero ns e = e
+first-before (suc k) ns e = refl
+
+-- of two lists of numbers the first decides, or the second
+pub first-within : (ks ns : List ℕ) → 0 < firstOf ks → firstOf (ks ++ ns) ≡ firstOf ks
+unfolding firstOf
+first-within [] ns h = absurd (not-suc-le-zero h)
+first-within (zero ∷ ks) ns h = first-within ks ns h
+first-within (suc k ∷ ks) ns h = refl
+
+pub first-after : (ks ns : List ℕ) → firstOf ks ≡ 0 → firstOf (ks ++ ns) ≡ firstOf ns
+unfolding firstOf
+first-after [] ns e = refl
+first-after (zero ∷ ks) ns e = first-after ks ns e
+first-after (suc k ∷ ks) ns e = absurd (omega arith)
+
+-- a last number that is the first of further ones
+first-last : (ks ns : List ℕ) → firstOf (ks ++ (firstOf ns ∷ [])) ≡ firstOf (ks ++ ns)
+unfolding firstOf
+first-last [] ns = first-before (firstOf ns) [] refl
+first-last (zero ∷ ks) ns = first-last ks ns
+first-last (suc k ∷ ks) ns = refl
+
+-- a first number above 0 is the answer
+pub refused : {A : Type 0} (ns : List ℕ) {k : ℕ} (place : ℕ) (out : List A) (given : Outcome A) → firstOf ns ≡ k → 0 < k
+    → judged (firstOf ns) place out given ≡ record { number = k; place = place; output = out }
+unfolding judged
+refused ns {k} place out given e h = rw (e, ne-eqb k 0 (λ z. omega arith))
+
+module _ {A : Type 0} (write write′ : List ℤ → List A) (words : List ℕ) (place : ℕ) (out : List A) where
+  pub settled-same : (read : Read (List ℤ)) → ((cs : List ℤ) (rest : List ℕ) → read ≡ got cs rest → write cs ≡ write′ cs)
+      → write (replicate (length out) (pos 0)) ≡ write′ (replicate (length out) (pos 0))
+      → settled write (length words) place (length out) read ≡ settled write′ (length words) place (length out) read
+  unfolding settled
+  settled-same (got cs rest) h z = rw (h cs rest refl)
+  settled-same short h z = rw z
+
+  -- a sampler's further numbers are no more than the draw's own
+  pub joined : (number : ℕ) (ns : List ℕ) (rules : List ℕ → Read (List ℤ)) → firstOf ns ≡ number
+      → ((cs : List ℤ) (rest : List ℕ) → rules (drop place words) ≡ got cs rest → write cs ≡ write′ cs)
+      → write (replicate (length out) (pos 0)) ≡ write′ (replicate (length out) (pos 0))
+      → readDraw write number rules words place out
+      ≡ drawn write′ (stateNumbers true (length words) place ++ (tooLong (length out) ∷ ns)) words place out (length out) rules
+  unfolding firstOf
+  joined number ns rules e h z =
+      rw (← e, first-last (pastEnd (length words) place ∷ tooLong (length out) ∷ []) ns)
+      (ap (judged (firstOf (pastEnd (length words) place ∷ tooLong (length out) ∷ ns)) place out) (settled-same (rules (drop place words)) h z))

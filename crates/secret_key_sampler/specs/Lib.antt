@@ -1,0 +1,2 @@
+-- What a secret-key sampler is made of, and which samplers making gives.
+pub mod Sampler

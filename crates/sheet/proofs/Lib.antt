@@ -1,0 +1,8 @@
+-- Laws that the proofs of this crate share.
+pub mod Words
+pub mod Digits
+pub mod Placing
+pub mod Signs
+pub mod Lines
+pub mod Lengths
+pub mod WellFormed

@@ -1,0 +1,4 @@
+-- Document 01, "The sheet": what a sheet says and the text that answers it.
+pub mod Text
+pub mod Written
+pub mod Sheet

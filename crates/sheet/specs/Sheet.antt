@@ -1,0 +1,106 @@
+-- "The sheet": eight little-endian u32, then words; when it is malformed, what it draws, and its answer.
+use Prim.Native.Nat.{ℕ, zero, suc, _+_, _*_, _-_, _^_}
+use mathlib.Core.Bool.{Bool, true, not, cond, _&&_, _||_}
+use mathlib.Core.List.{List, [], _∷_, map}
+use lib.Dec.{leb, ltb, eqb}
+use lib.ListN.{length, getD, replicate}
+use lib.IntN.{ℤ, pos}
+use Rattle.distr.specs.declared.secret_key_distr.SecretKeyDistr.the-variants.{UniformBinary, SparseTernary, UniformTernary, FixedHammingWeightBinary, BlockBinary, FixedHammingWeightTernary, FixedCompositionTernary}
+use Rattle.distr.specs.declared.secret_key_distr.BlockOccupancy.the-variants.{AtMostOne, ExactlyOne}
+use Rattle.distr.specs.declared.error_distribution.ErrorDistribution.the-variants.{CenteredBinomial}
+use Rattle.distr.specs.Distribution.{Distr, secret, error, Tables}
+use Rattle.distr.specs.Making.{makingNumber}
+use Rattle.distr.specs.Draw.{Outcome, judged, signedDraw, encodedDraw}
+use Rattle.sheet.specs.declared.fields.Fields.{Fields}
+use Rattle.sheet.specs.Text.{answerText}
+
+-- The little-endian u32 that begins at a byte of the sheet.
+unfoldable pub u32At : List ℕ → ℕ → ℕ
+u32At s i = getD s i 0 + getD s (i + 1) 0 * 2 ^ 8 + getD s (i + 2) 0 * 2 ^ 16 + getD s (i + 3) 0 * 2 ^ 24
+
+-- "Eight little-endian u32": the i-th of them.
+abbrev pub field : List ℕ → ℕ → ℕ
+field s i = u32At s (4 * i)
+
+-- "Kind, n, A, B, word count, word offset in bytes, modulus or 0 for signed, 0."
+unfoldable pub fieldsOf : List ℕ → Fields
+fieldsOf s = record {
+  kind = field s 0;
+  n = field s 1;
+  a = field s 2;
+  b = field s 3;
+  count = field s 4;
+  offset = field s 5;
+  modulus = field s 6;
+  last = field s 7;
+}
+
+-- `count` words from a byte of the sheet on, wherever it stands.
+unfoldable pub wordsAt : List ℕ → ℕ → ℕ → List ℕ
+wordsAt s i zero = []
+wordsAt s i (suc count) = u32At s i ∷ wordsAt s (i + 4) count
+
+-- The sheet's words.
+abbrev pub sheetWords : List ℕ → List ℕ
+sheetWords s = wordsAt s (fieldsOf s .offset) (fieldsOf s .count)
+
+-- "Kind or last field wrong, n over 4,096, over 8,192 words, words starting before 32 or ending past the file."
+unfoldable pub badFields : Fields → ℕ → Bool
+badFields f size =
+    not (leb 1 (f .kind) && leb (f .kind) 9)
+    || not (eqb (f .last) 0)
+    || ltb 4096 (f .n)
+    || ltb 8192 (f .count)
+    || ltb (f .offset) 32
+    || ltb size (f .offset + 4 * f .count)
+
+-- 14: "file under 32 or over 65,536 bytes", or its fields bad.
+unfoldable pub malformed : List ℕ → Bool
+malformed s = ltb (length s) 32 || ltb 65536 (length s) || badFields (fieldsOf s) (length s)
+
+-- "Kinds 1 to 9 select the distribution by number." (The last is for the other numbers, which are refused.)
+unfoldable pub kindDistr : ℕ → ℕ → ℕ → Distr
+kindDistr kind a b =
+    getD
+    (secret UniformBinary
+    ∷ secret SparseTernary
+    ∷ secret UniformTernary
+    ∷ secret (FixedHammingWeightBinary a)
+    ∷ secret (BlockBinary a AtMostOne)
+    ∷ secret (BlockBinary a ExactlyOne)
+    ∷ secret (FixedHammingWeightTernary a)
+    ∷ secret (FixedCompositionTernary a b)
+    ∷ error (CenteredBinomial a)
+    ∷ [])
+    (kind - 1)
+    (secret UniformBinary)
+
+-- A sheet lends no tables, and no kind needs one.
+abbrev pub noTables : Tables
+noTables = record { bounds = []; layers = record { endpoints = []; heights = []; curve = [] } }
+
+-- Residues as coefficients.
+abbrev pub residues : Outcome ℕ → Outcome ℤ
+residues o = record { number = o .number; place = o .place; output = map pos (o .output) }
+
+-- The draw that a sheet asks for: the numbers of making come first, then those of the draw; "modulus or 0 for signed".
+-- "Kind 9 with a modulus draws as CRT of one", as every encoded centered binomial does.
+unfoldable pub drawOf : ℕ → ℕ → ℕ → ℕ → ℕ → List ℕ → Outcome ℤ
+drawOf kind n a b modulus words =
+    let d = kindDistr kind a b in
+    let zeros = replicate n (pos 0) in
+    judged (makingNumber d) 0 zeros
+    (cond (eqb modulus 0) (signedDraw true d noTables words 0 zeros)
+    (residues (encodedDraw true d noTables modulus words 0 (replicate n 0))))
+
+-- The answer of an outcome: its number, the words used, n, and the coefficients.
+abbrev pub outcomeText : ℕ → Outcome ℤ → List ℕ
+outcomeText n o = answerText (o .number) (o .place) n (o .output)
+
+-- The answer of fields that are good, on the sheet's words.
+abbrev pub fieldsText : Fields → List ℕ → List ℕ
+fieldsText f words = outcomeText (f .n) (drawOf (f .kind) (f .n) (f .a) (f .b) (f .modulus) words)
+
+-- The whole answer of a sheet.
+unfoldable pub sheetText : List ℕ → List ℕ
+sheetText s = cond (malformed s) (answerText 14 0 0 []) (fieldsText (fieldsOf s) (sheetWords s))

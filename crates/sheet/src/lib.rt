@@ -1,0 +1,4 @@
+// The sheet: its fields and words, and the text that answers it.
+mod answer;
+mod fields;
+mod text;

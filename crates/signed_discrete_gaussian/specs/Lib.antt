@@ -1,0 +1,2 @@
+-- The lent tables of a Gaussian draw.
+pub mod Lent

@@ -1,0 +1,87 @@
+-- Filling an output with one reading after the other: what is left to read, put behind what is stored, is what the whole reading gives.
+use mathlib.Core.Path.{_≡_, refl, sym, ap, _∙_}
+use mathlib.Core.List.{List, _∷_, _++_, map, append-nil}
+use Prim.Native.Nat.{ℕ, suc, _+_, _-_, _<_, _≤_}
+use native.Mathlib.Nat.{sub-zero}
+use native.Mathlib.Numerals.{add-one}
+use native.Mathlib.Omega.{arith}
+use lib.ListN.{length, take, drop, set, replicate, length-set}
+use lib.Seq.{take-suc-set, take-all, append-snoc}
+use lib.IntN.{ℤ, pos}
+use Rattle.distr.specs.Words.{Read, got, short, mapRead, bindRead, many}
+use Rattle.distr.specs.Draw.{settled}
+use Rattle.distr.proofs.Writing.{map-replicate}
+
+module _ {A : Type 0} (put : ℤ → A) (one : List ℕ → Read ℤ) (words : List ℕ) (place : ℕ) (out₀ : List A) where
+  -- what the output is to hold, with the words left then
+  abbrev pub Whole : Read (List A)
+  Whole = mapRead (map put) (many one (length out₀) (drop place words))
+
+  pub record Filled (i at : ℕ) (out : List A) : Type 0 where
+    pub sized : length out ≡ length out₀
+    pub within : at ≤ length words
+    pub same : mapRead (λ cs. take i out ++ map put cs) (many one (length out₀ - i) (drop at words)) ≡ Whole
+
+  pub filled-none : place ≤ length words → Filled 0 place out₀
+  filled-none h = record { sized = refl; within = h; same = rw (sub-zero (length out₀)) }
+
+  -- one more reading: there, or short
+  next : (i : ℕ) (ws : List ℕ) → i < length out₀
+      → many one (length out₀ - i) ws ≡ bindRead (one ws) (λ a rest. mapRead (λ rs. a ∷ rs) (many one (length out₀ - (i + 1)) rest))
+  unfolding many
+  next i ws h =
+      let left : length out₀ - i ≡ suc (length out₀ - (i + 1)) = omega arith in
+      rw left
+
+  pub filled-more : (i at later : ℕ) (out : List A) (v : ℤ) → i < length out₀ → Filled i at out → one (drop at words) ≡ got v (drop later words) → later ≤ length words
+      → Filled (i + 1) later (set out i (put v))
+  unfolding bindRead mapRead
+  filled-more i at later out v h f e k = record {
+    sized = length-set out i (put v) ∙ f .sized;
+    within = k;
+    same =
+        moved (many one (length out₀ - (i + 1)) (drop later words))
+        ∙ (rw (next i (drop at words) h, e) at (f .same));
+  }
+    where
+      stored : (cs : List ℤ) → take (i + 1) (set out i (put v)) ++ map put cs ≡ take i out ++ (put v ∷ map put cs)
+      stored cs = rw (add-one i, take-suc-set out i (put v) (omega (arith, f .sized))) (append-snoc (take i out) (put v) (map put cs))
+
+      moved : (r : Read (List ℤ))
+          → mapRead (λ cs. take (i + 1) (set out i (put v)) ++ map put cs) r ≡ mapRead (λ cs. take i out ++ map put cs) (mapRead (λ cs. v ∷ cs) r)
+      moved (got cs rest) = ap (λ (l : List A). got l rest) (stored cs)
+      moved short = refl
+
+  pub filled-short : (i at : ℕ) (out : List A) → i < length out₀ → Filled i at out → one (drop at words) ≡ short → Whole ≡ short
+  unfolding bindRead mapRead
+  filled-short i at out h f e = sym (f .same) ∙ rw (next i (drop at words) h, e)
+
+  pub filled-all : (i at : ℕ) (out : List A) → i ≤ length out₀ → length out₀ ≤ i → Filled i at out → Whole ≡ got out (drop at words)
+  unfolding many mapRead
+  filled-all i at out h k f =
+      let none : length out₀ - i ≡ 0 = omega arith in
+      sym (rw none at (f .same)) ∙ ap (λ (l : List A). got l (drop at words)) (append-nil (take i out) ∙ take-all i out (omega (arith, f .sized)))
+
+-- what a reading gives is settled: drawn, or short of words
+module _ {A : Type 0} (write : List ℤ → List A) (put : ℤ → A) (writes : (cs : List ℤ) → write cs ≡ map put cs) (count place n : ℕ) where
+  pub settled-got : (r : Read (List ℤ)) (out : List A) (rest : List ℕ) (at : ℕ) → count - length rest ≡ at → mapRead (map put) r ≡ got out rest
+      → record { number = 0; place = at; output = out } ≡ settled write count place n r
+  unfolding settled mapRead
+  settled-got (got cs left) out rest at p e =
+      let same : got (map put cs) left ≡ got out rest = e in
+      let outs : map put cs ≡ out = cc in
+      let rests : left ≡ rest = cc in
+      rw (← p, ← outs, ← rests, writes cs)
+  settled-got short out rest at p e =
+      let no : short ≡ got out rest = e in
+      let z : _≡_ {A = ℕ} 0 1 = cc in
+      absurd (omega arith)
+
+  pub settled-short : (r : Read (List ℤ)) (out : List A) → mapRead (map put) r ≡ short → out ≡ replicate n (put (pos 0))
+      → record { number = 23; place = place; output = out } ≡ settled write count place n r
+  unfolding settled mapRead
+  settled-short (got cs left) out e z =
+      let no : got (map put cs) left ≡ short = e in
+      let zo : _≡_ {A = ℕ} 0 1 = cc in
+      absurd (omega arith)
+  settled-short short out e z = rw (z, writes (replicate n (pos 0)), map-replicate put n (pos 0))

@@ -1,0 +1,10 @@
+pub mod Judging
+pub mod Floats
+pub mod Accepting
+pub mod LayerTables
+pub mod Trying
+pub mod Proposing
+pub mod Passing
+pub mod ZeroThreshold
+pub mod Filling
+pub mod Refusing

@@ -1,0 +1,42 @@
+-- Half over a first height above 0.999 is a probability.
+use mathlib.Core.Path.{_≡_}
+use mathlib.Core.Bool.{true, false, _&&_}
+use Prim.Native.Nat.{_*_, _<_}
+use native.Mathlib.Nat.{zero-lt-suc}
+use native.Mathlib.Omega.{arith}
+use lib.Dec.{T, ltb→lt}
+use borrow.Author.Tests.{ne-eqb}
+use lib.Ieee.{Float, nan, inf, fin, binary64, up, down, round, div, lt, le}
+use lib.Ieee.Fits.{down-pos}
+use lib.Ieee.Order.{round-mono}
+use lib.Ieee.Positive.{first-pos}
+use lib.Ieee.Scale.{finite}
+use Rattle.distr.specs.Gaussian.{literal}
+use Rattle.distr.specs.Layered.{inUnit}
+use Rattle.distr.specs.Making.{badProbability}
+use Rattle.distr.proofs.Reading.{and-both, T-true}
+
+-- what lies between 0 and 1 is finite
+unit-finite : (p : Float) → T (le (literal 0 1) p) → T (le p (literal 1 1)) → T (finite p)
+unfolding le lt round
+unit-finite nan low high = absurd high
+unit-finite (inf true) low high = absurd low
+unit-finite (inf false) low high = absurd high
+unit-finite (fin s m e) low high = tt
+
+good : (p : Float) → T (le (literal 0 1) p) → T (le p (literal 1 1)) → badProbability p ≡ false
+good p low high = rw (T-true (finite p && inUnit p) (and-both (finite p) (inUnit p) (unit-finite p low high) (and-both (le (literal 0 1) p) (le p (literal 1 1)) low high)))
+
+pub half-over : (h : Float) → T (finite h) → T (lt (literal 999 1000) h) → badProbability (div binary64 (literal 1 2) h) ≡ false
+unfolding lt round div
+half-over nan f t = absurd f
+half-over (inf s) f t = absurd f
+half-over (fin true m e) f t = absurd t
+half-over (fin false m e) f t =
+    let high : 8998192055486251 * 1 * down e < m * up e * 9007199254740992 = ltb→lt (8998192055486251 * 1 * down e) (m * up e * 9007199254740992) t in
+    let some : 0 < m = first-pos m (up e) (omega (arith, down-pos e)) in
+    let over : 0 < m * up e * 2 = omega (arith, down-pos e) in
+    rw (ne-eqb m 0 (λ z. omega arith))
+    (good (round binary64 false (1 * down e) (m * up e * 2))
+    (round-mono binary64 0 1 (1 * down e) (m * up e * 2) (zero-lt-suc 0) over (omega arith))
+    (round-mono binary64 (1 * down e) (m * up e * 2) 1 1 over (zero-lt-suc 0) (omega arith)))

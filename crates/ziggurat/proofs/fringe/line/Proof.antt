@@ -1,0 +1,20 @@
+-- `fringe::line` is the definition's chord.
+use lib.Ieee.{round, ofBits}
+use Rattle.ziggurat.specs.Fringe.{lineOf}
+use borrow.Author.Needs.{needs}
+use Rattle.ziggurat.proofs.fringe.line.Statement.{statement}
+use Rattle.ziggurat.proofs.fringe.line.Tie as tie
+
+slope-requires : tie.Need-slope-requires
+slope-requires c κs = search needs
+
+returns : tie.Need-returns
+unfolding lineOf round ofBits
+returns c = rw (c .if1 .taken)
+
+returns-2 : tie.Need-returns-2
+unfolding lineOf
+returns-2 c = rw (c .before .before .if1 .left, c .before .slope .ensures)
+
+pub line-spec : {M : Type 1} → statement M
+line-spec = tie.close (tie.spec slope-requires returns returns-2)

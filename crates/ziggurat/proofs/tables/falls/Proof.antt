@@ -1,0 +1,72 @@
+-- `tables::falls` tests each element against the one before it: `ok` and the test of what is left stand for the test of the whole.
+use mathlib.Core.Path.{_≡_, refl}
+use mathlib.Core.Bool.{_&&_}
+use Prim.Native.Nat.{_-_, _<_}
+use native.Mathlib.Omega.{arith}
+use lib.ListN.{length, drop}
+use lib.Ieee.{lt, nan}
+use Rattle.distr.specs.Layered.{falls}
+use Rattle.ziggurat.proofs.Judging.{pair-more, pair-all}
+use Rattle.ziggurat.proofs.tables.falls.Statement.{statement}
+use Rattle.ziggurat.proofs.tables.falls.Tie as tie
+
+abbrev Inv-loop : tie.InvT-loop
+Inv-loop xs ok₀ i₀ ok i = (0 < i) × (ok && falls (drop (i - 1) xs) ≡ falls xs)
+
+abbrev μ-loop : tie.MeasureT-loop
+μ-loop xs ok₀ i₀ ok i = length xs - i
+
+loop-holds : tie.Need-loop-holds Inv-loop μ-loop
+loop-holds c = (omega arith, refl)
+
+mul-ok : tie.Need-mul-ok Inv-loop μ-loop
+mul-ok c = omega arith
+
+shared-slice-read-ok : tie.Need-shared-slice-read-ok Inv-loop μ-loop
+shared-slice-read-ok c = omega arith
+
+sub-ok : tie.Need-sub-ok Inv-loop μ-loop
+sub-ok c = omega arith
+
+mul-ok-2 : tie.Need-mul-ok-2 Inv-loop μ-loop
+mul-ok-2 c = omega arith
+
+shared-slice-read-ok-2 : tie.Need-shared-slice-read-ok-2 Inv-loop μ-loop
+shared-slice-read-ok-2 c = omega arith
+
+add-i : tie.Need-add-i Inv-loop μ-loop
+add-i c = omega arith
+
+loop-less : tie.Need-loop-less Inv-loop μ-loop
+loop-less c = omega arith
+
+loop-again : tie.Need-loop-again Inv-loop μ-loop
+unfolding falls
+loop-again c =
+    let a = c .before .before .before .before .args in
+    let turn = c .before .before .before .loop in
+    (omega arith, pair-more falls refl (λ a b. lt b a) (λ x y xs. refl) (turn .ok) (turn .i) (a .xs .now) nan (turn .inv .0) (c .before .before .loop-test .taken) (turn .inv .1))
+
+returns : tie.Need-returns Inv-loop μ-loop
+unfolding falls
+returns c =
+    let a = c .before .before .args in
+    let turn = c .before .loop in
+    pair-all falls refl (λ x. refl) (turn .ok) (turn .i) (a .xs .now) (c .loop-test .left) (turn .inv .1)
+
+pub falls-spec : {M : Type 1} → statement M
+falls-spec =
+    tie.close
+    (tie.spec
+    Inv-loop
+    μ-loop
+    loop-holds
+    mul-ok
+    shared-slice-read-ok
+    sub-ok
+    mul-ok-2
+    shared-slice-read-ok-2
+    add-i
+    loop-less
+    loop-again
+    returns)
