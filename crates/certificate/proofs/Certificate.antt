@@ -51,15 +51,14 @@ pub compositions : (s : SecretKeySampler) (minus ones n : ℕ) (tables : Tables)
     → s .distr ≡ FixedCompositionTernary minus ones
     → Accepted (isMade s) (secret (s .distr)) n tables → T (inside (secret (s .distr)) n cs) → T (inside (secret (s .distr)) n cs′)
     → (N : ℕ)
-      × Exactly (List ℕ) N (Reaching s n tables cs)
-      × Exactly (List ℕ) N (Reaching s n tables cs′)
+    × Exactly (List ℕ) N (Reaching s n tables cs)
+    × Exactly (List ℕ) N (Reaching s n tables cs′)
 compositions s minus ones n tables cs cs′ e ok i i′ =
-    let all = secret-key-draws s n tables ok in
-    (
+    let all = secret-key-draws s n tables ok in (
       formula (secret (s .distr)) n (tables .bounds) cs,
       all .inside-exactly cs i,
       subst (λ (N : ℕ). Exactly (List ℕ) N (Reaching s n tables cs′)) (same-count (s .distr) minus ones n (tables .bounds) cs cs′ e)
-      (all .inside-exactly cs′ i′)
+          (all .inside-exactly cs′ i′),
     )
 
 -- "And for every k from 1 to 2^32, a bounded choice among k values gives each of them for exactly the whole part of 2^32/k words and skips all

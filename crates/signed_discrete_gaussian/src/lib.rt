@@ -32,7 +32,7 @@ pub fn sample_gaussian_to_i64(
     if parameters.maximum_magnitude <= CDT_MAX_MAGNITUDE {
         cdt::sample_cdt_to_i64(output, parameters.maximum_magnitude, bounds, words, place)
     } else {
-        ziggurat::draw::sample_ziggurat_to_i64(
+        ziggurat::signed::sample_ziggurat_to_i64(
             output,
             parameters,
             endpoints,
@@ -73,7 +73,7 @@ pub fn sample_gaussian_to_u64(
             place,
         )
     } else {
-        ziggurat::draw::sample_ziggurat_to_u64(
+        ziggurat::encoded::sample_ziggurat_to_u64(
             output,
             minus_one,
             parameters,

@@ -12,10 +12,13 @@ module _ (t : Layers) (i : ℕ) where
   -- the chord falls from its start to the layer's height
   same-slope : slopeOf (layerAt t i) ≡ slope t i
   unfolding slopeOf
-  same-slope = ap (λ (fall : Float). cond (eq (sub binary64 (x t i) (x t (i - 1))) (literal 0 1)) (literal 0 1) (div binary64 fall (sub binary64 (x t i) (x t (i - 1)))))
+  same-slope =
+      let width = sub binary64 (x t i) (x t (i - 1)) in
+      ap (λ (fall : Float). cond (eq width (literal 0 1)) (literal 0 1) (div binary64 fall width))
       (by-layer (eqb i 1))
     where
-      by-layer : (first : Bool) → sub binary64 (y t i) (cond first (literal 1 1) (y t (i - 1))) ≡ cond first (sub binary64 (y t i) (literal 1 1)) (sub binary64 (y t i) (y t (i - 1)))
+      by-layer : (first : Bool) → sub binary64 (y t i) (cond first (literal 1 1) (y t (i - 1)))
+          ≡ cond first (sub binary64 (y t i) (literal 1 1)) (sub binary64 (y t i) (y t (i - 1)))
       by-layer true = refl
       by-layer false = refl
 

@@ -33,8 +33,8 @@ module _ {A : Type 0} (put : ℤ → A) (one : List ℕ → Read ℤ) (words : L
       let left : length out₀ - i ≡ suc (length out₀ - (i + 1)) = omega arith in
       rw left
 
-  pub filled-more : (i at later : ℕ) (out : List A) (v : ℤ) → i < length out₀ → Filled i at out → one (drop at words) ≡ got v (drop later words) → later ≤ length words
-      → Filled (i + 1) later (set out i (put v))
+  pub filled-more : (i at later : ℕ) (out : List A) (v : ℤ) → i < length out₀ → Filled i at out → one (drop at words) ≡ got v (drop later words)
+      → later ≤ length words → Filled (i + 1) later (set out i (put v))
   unfolding bindRead mapRead
   filled-more i at later out v h f e k = record {
     sized = length-set out i (put v) ∙ f .sized;
@@ -51,6 +51,15 @@ module _ {A : Type 0} (put : ℤ → A) (one : List ℕ → Read ℤ) (words : L
           → mapRead (λ cs. take (i + 1) (set out i (put v)) ++ map put cs) r ≡ mapRead (λ cs. take i out ++ map put cs) (mapRead (λ cs. v ∷ cs) r)
       moved (got cs rest) = ap (λ (l : List A). got l rest) (stored cs)
       moved short = refl
+
+  -- a reading that is the same from later words on
+  pub filled-skip : (i at later : ℕ) (out : List A) → i < length out₀ → Filled i at out → one (drop at words) ≡ one (drop later words) → later ≤ length words
+      → Filled i later out
+  filled-skip i at later out h f e k = record {
+    sized = f .sized;
+    within = k;
+    same = rw (next i (drop later words) h, ← e, ← next i (drop at words) h) (f .same);
+  }
 
   pub filled-short : (i at : ℕ) (out : List A) → i < length out₀ → Filled i at out → one (drop at words) ≡ short → Whole ≡ short
   unfolding bindRead mapRead

@@ -2,7 +2,7 @@
 use mathlib.Core.Path.{_≡_}
 use mathlib.Core.Bool.{Bool, true, false, _&&_, _||_}
 use mathlib.Core.List.{List, [], _∷_}
-use Prim.Native.Nat.{ℕ, zero, suc, _+_, _-_, _<_, _≤_}
+use Prim.Native.Nat.{ℕ, zero, suc, _+_, _-_, _^_, _<_, _≤_}
 use native.Mathlib.Nat.{not-suc-le-zero, le-of-suc-le-suc, le-refl, le-trans, add-zero, add-suc}
 use native.Mathlib.Omega.{arith}
 use lib.Dec.{T, leb, eqb, leb→le, eqb→eq}
@@ -11,6 +11,8 @@ use lib.Ieee.{Float, lt, eq}
 use lib.Ieee.Scale.{finite}
 use Rattle.distr.specs.Gaussian.{literal, neverFalls, rising}
 use Rattle.distr.specs.Layered.{Layers, layerCount, layerTables, heightList, curveList, allFinite, falls, allInUnit}
+use Rattle.ziggurat.specs.Tables.{layerSizes}
+use Rattle.ziggurat.specs.Sampling.{OnLayer}
 use Rattle.distr.proofs.Reading.{and-left, and-right}
 
 -- a list that never falls
@@ -54,9 +56,12 @@ module _ (M : ℕ) (t : Layers) (ok : T (layerTables M t)) where
   -- the tests of the endpoints, and those of the heights but the last
   ends : T (eqb (length (t .endpoints)) (R + 1)) × T (eqb (getD (t .endpoints) 0 1) 0) × T (eqb (getD (t .endpoints) (R + 1 - 1) 0) M)
       × T (neverFalls (t .endpoints))
-  ends = four (eqb (length (t .endpoints)) (R + 1)) (eqb (getD (t .endpoints) 0 1) 0) (eqb (getD (t .endpoints) (R + 1 - 1) 0) M) (neverFalls (t .endpoints)) (parts .1)
+  ends =
+      four (eqb (length (t .endpoints)) (R + 1)) (eqb (getD (t .endpoints) 0 1) 0) (eqb (getD (t .endpoints) (R + 1 - 1) 0) M)
+      (neverFalls (t .endpoints)) (parts .1)
 
-  tops : T (eqb (length (t .heights)) (R + 1)) × T (allFinite (t .heights)) × T (falls (t .heights)) × T (lt (literal 999 1000) (getD (t .heights) 0 (literal 0 1)))
+  tops : T (eqb (length (t .heights)) (R + 1)) × T (allFinite (t .heights)) × T (falls (t .heights))
+      × T (lt (literal 999 1000) (getD (t .heights) 0 (literal 0 1)))
   tops =
       let n = eqb (length (t .heights)) (R + 1) in
       let high = lt (literal 999 1000) (getD (t .heights) 0 (literal 0 1)) in
@@ -93,3 +98,17 @@ module _ (M : ℕ) (t : Layers) (ok : T (layerTables M t)) where
 
   pub first-high : T (lt (literal 999 1000) (getD (t .heights) 0 (literal 0 1)))
   first-high = tops .3
+
+  pub sizes : T (layerSizes (t .endpoints))
+  sizes = parts .0
+
+  -- a magnitude on a layer: the endpoint of the layer above is as small, and the curve has its value
+  module _ (i m : ℕ) (on : OnLayer (t .endpoints) i m) where
+    pub inner-small : getD (t .endpoints) (i - 1) 0 < 2 ^ 32
+    inner-small = omega (arith, endpoint-rises i (on .some) (on .there), on .small)
+
+    pub magnitude-there : m < length (t .curve)
+    magnitude-there = omega (arith, on .below, endpoint-within i (on .there), curve-count)
+
+    pub height-there : i < length (t .heights)
+    height-there = rw heights-count (on .there)

@@ -8,3 +8,4 @@ pub mod Passing
 pub mod ZeroThreshold
 pub mod Filling
 pub mod Refusing
+pub mod Turning

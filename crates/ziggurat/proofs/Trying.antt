@@ -149,7 +149,8 @@ module _ (deviation : Float) (t : Layers) where
       by-coin chosen short = refl
 
       by-layer : (r : Read ℕ)
-          → bindRead r (λ chosen ws₁. bindRead (coin ws₁) (λ positive rest. bindRead (magnitudes chosen rest) (λ m later. verdict (proposal chosen positive m) later)))
+          → bindRead r (λ chosen ws₁. bindRead (coin ws₁) (λ positive rest.
+          bindRead (magnitudes chosen rest) (λ m later. verdict (proposal chosen positive m) later)))
           ≡ bindRead (bindRead r (λ chosen ws₁. bindRead (coin ws₁) (λ positive rest. mapRead (proposal chosen positive) (magnitudes chosen rest)))) verdict
       by-layer (got chosen rest) = by-coin chosen (coin rest)
       by-layer short = refl

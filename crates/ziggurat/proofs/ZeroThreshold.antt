@@ -25,7 +25,9 @@ unit-finite (inf false) low high = absurd high
 unit-finite (fin s m e) low high = tt
 
 good : (p : Float) → T (le (literal 0 1) p) → T (le p (literal 1 1)) → badProbability p ≡ false
-good p low high = rw (T-true (finite p && inUnit p) (and-both (finite p) (inUnit p) (unit-finite p low high) (and-both (le (literal 0 1) p) (le p (literal 1 1)) low high)))
+good p low high =
+    let unit = and-both (le (literal 0 1) p) (le p (literal 1 1)) low high in
+    rw (T-true (finite p && inUnit p) (and-both (finite p) (inUnit p) (unit-finite p low high) unit))
 
 pub half-over : (h : Float) → T (finite h) → T (lt (literal 999 1000) h) → badProbability (div binary64 (literal 1 2) h) ≡ false
 unfolding lt round div

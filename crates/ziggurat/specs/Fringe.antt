@@ -7,6 +7,7 @@ use Rattle.distr.specs.Gaussian.{literal}
 use Rattle.distr.specs.Layered.{Layers, x, y, scaled}
 use Rattle.ziggurat.specs.declared.fringe.Layer.{Layer}
 
+-- Layer i of the tables. The first layer's chord starts at 1.0.
 abbrev pub layerAt : Layers → ℕ → Layer
 layerAt t i = record {
   left = x t (i - 1);
@@ -16,6 +17,7 @@ layerAt t i = record {
   top = cond (eqb i 1) (literal 1 1) (y t (i - 1));
 }
 
+-- The slope of its chord, and the chord's height at a point.
 unfoldable pub slopeOf : Layer → Float
 slopeOf l =
     let width = sub binary64 (l .right) (l .left) in
@@ -24,7 +26,7 @@ slopeOf l =
 unfoldable pub lineOf : Layer → Float → Float
 lineOf l at = cond (eq (l .right) (l .left)) (neg (literal 1 1)) (mul binary64 (slopeOf l) (sub binary64 at (l .right)))
 
--- The magnitude m, the curve's value there and the drawn word, each as f64.
+-- The three arms of `sample`, by the side of the deviation. The magnitude m, the curve's value there and the drawn word, each as f64.
 unfoldable pub acceptsOn : Float → Layer → Float → Float → Float → Bool
 acceptsOn deviation l m pdf word =
     let height = mul binary64 (sub binary64 (l .above) (l .below)) word in

@@ -1,18 +1,17 @@
 -- A try's proposal, and what the functions that read one coefficient hand back: what was read, and where the words left begin.
 use Prim.Native.Nat.{ℕ, suc, _+_, _-_, _^_, _<_, _≤_}
 use mathlib.Core.Path.{_≡_}
-use mathlib.Core.Bool.{Bool, true, false}
+use mathlib.Core.Bool.{Bool, true, false, cond, _&&_}
 use mathlib.Core.List.{List}
+use lib.Dec.{leb, ltb, eqb}
 use lib.ListN.{length, getD, drop}
-use lib.IntN.{ℤ}
-use Rattle.distr.specs.Words.{Read, got, short, mapRead, bindRead, choose, coin}
-use Rattle.distr.specs.Gaussian.{signed}
+use lib.Ieee.{Float}
+use Rattle.distr.specs.Words.{Read, got, short, mapRead, bindRead, word, choose, coin, chance}
+use Rattle.distr.specs.Layered.{Layers, accepts, zeroThreshold}
 use Rattle.words.specs.declared.Told.{Told}
 use Rattle.words.specs.declared.Told.the-variants.{Yes, No, Short as NotTold}
 use Rattle.ziggurat.specs.declared.sampling.Proposal.{Proposal}
 use Rattle.ziggurat.specs.declared.sampling.Proposal.the-variants.{Got, Short}
-use Rattle.ziggurat.specs.declared.sampling.Sampled.{Sampled}
-use Rattle.ziggurat.specs.declared.sampling.Sampled.the-variants.{Got as Drawn, Short as NotDrawn}
 
 -- "A try chooses the layer among R, plus 1, then a coin (yes is positive), then a magnitude among endpoint + 1."
 pub record Proposed : Type 0 where
@@ -33,18 +32,20 @@ pub record OnLayer (endpoints : List ℕ) (layer magnitude : ℕ) : Type 0 where
   pub below : magnitude ≤ getD endpoints layer 0
   pub small : getD endpoints layer 0 < 2 ^ 32
 
+-- What a proposal says was read, with the words left then; and that it is on a layer and passes a word.
 abbrev pub proposalRead : List ℕ → Proposal → Read Proposed
-proposalRead ws (Got layer positive m place) = got (record { layer = layer; positive = positive; magnitude = m }) (drop place ws)
+proposalRead ws (Got c) = got (record { layer = c .layer; positive = c .positive; magnitude = c .magnitude }) (drop (c .place) ws)
 proposalRead ws Short = short
 
 abbrev pub proposalSound : List ℕ → List ℕ → ℕ → Proposal → Type 0
-proposalSound endpoints ws at (Got layer positive m place) = OnLayer endpoints layer m × (at < place) × (place ≤ length ws)
+proposalSound endpoints ws at (Got c) = OnLayer endpoints (c .layer) (c .magnitude) × (at < c .place) × (c .place ≤ length ws)
 proposalSound endpoints ws at Short = Unit
 
 pub record Proposes (endpoints ws : List ℕ) (place : ℕ) (r : Proposal) : Type 0 where
   pub reads : proposalRead ws r ≡ propose endpoints (drop place ws)
   pub sound : proposalSound endpoints ws place r
 
+-- The same of what is told of a candidate, which may pass no word.
 abbrev pub toldRead : List ℕ → Told → Read Bool
 toldRead ws (Yes place) = got true (drop place ws)
 toldRead ws (No place) = got false (drop place ws)
@@ -59,14 +60,10 @@ pub record Judges (ws : List ℕ) (place : ℕ) (r : Told) (read : Read Bool) : 
   pub reads : toldRead ws r ≡ read
   pub sound : toldSound ws place r
 
-abbrev pub sampledRead : List ℕ → Sampled → Read ℤ
-sampledRead ws (Drawn positive m place) = got (signed positive m) (drop place ws)
-sampledRead ws NotDrawn = short
+-- Inside the layer above, the test made on integers.
+abbrev pub isInside : List ℕ → ℕ → ℕ → Bool
+isInside endpoints i m = leb m (getD endpoints (i - 1) 0) && ltb 0 m
 
-abbrev pub sampledSound : List ℕ → Sampled → Type 0
-sampledSound ws (Drawn positive m place) = place ≤ length ws
-sampledSound ws NotDrawn = Unit
-
-pub record Samples (ws : List ℕ) (r : Sampled) (read : Read ℤ) : Type 0 where
-  pub reads : sampledRead ws r ≡ read
-  pub sound : sampledSound ws r
+-- The judging of what is not inside the layer above: "magnitude 0 passes by the threshold", another by a word.
+unfoldable pub judgeEdge : Float → Layers → ℕ → ℕ → List ℕ → Read Bool
+judgeEdge deviation t i m ws = cond (eqb m 0) (chance (zeroThreshold t) ws) (mapRead (λ u. accepts deviation t i m u) (word ws))

@@ -1,6 +1,7 @@
 // The layered Gaussian: its lent tables and the draws by them.
-pub mod draw;
+pub mod encoded;
 mod fringe;
 mod refusal;
 mod sampling;
+pub mod signed;
 pub mod tables;

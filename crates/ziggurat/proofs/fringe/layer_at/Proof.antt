@@ -60,7 +60,9 @@ shared-slice-read-t22 c = search needs
 chord-top : (c : tie.Joined1)
     → c .if1 .top ≡ cond (eqb (c .before .before .args .i) 1) (literal 1 1) (getD (c .before .before .args .heights .now) (c .before .before .args .i - 1) nan)
 unfolding round ofBits
-chord-top c = ⊎-elim (λ w. rw (eq-eqb (c .before .before .args .i) 1 (w .0 .taken)) (w .1)) (λ w. rw (ne-eqb (c .before .before .args .i) 1 (w .0 .left)) (w .1)) (c .if1 .came)
+chord-top c =
+    let i = c .before .before .args .i in
+    ⊎-elim (λ w. rw (eq-eqb i 1 (w .0 .taken)) (w .1)) (λ w. rw (ne-eqb i 1 (w .0 .left)) (w .1)) (c .if1 .came)
 
 returns : tie.Need-returns
 returns c =

@@ -44,8 +44,11 @@ loop-again : tie.Need-loop-again Inv-loop μ-loop
 unfolding falls
 loop-again c =
     let a = c .before .before .before .before .args in
-    let turn = c .before .before .before .loop in
-    (omega arith, pair-more falls refl (λ a b. lt b a) (λ x y xs. refl) (turn .ok) (turn .i) (a .xs .now) nan (turn .inv .0) (c .before .before .loop-test .taken) (turn .inv .1))
+    let turn = c .before .before .before .loop in (
+      omega arith,
+      pair-more falls refl (λ a b. lt b a) (λ x y xs. refl) (turn .ok) (turn .i) (a .xs .now) nan
+          (turn .inv .0) (c .before .before .loop-test .taken) (turn .inv .1),
+    )
 
 returns : tie.Need-returns Inv-loop μ-loop
 unfolding falls

@@ -44,8 +44,10 @@ loop-again : tie.Need-loop-again Inv-loop μ-loop
 unfolding neverFalls
 loop-again c =
     let a = c .before .before .before .before .args in
-    let turn = c .before .before .before .loop in
-    (omega arith, pair-more neverFalls refl leb (λ x y xs. refl) (turn .ok) (turn .i) (a .xs .now) 0 (turn .inv .0) (c .before .before .loop-test .taken) (turn .inv .1))
+    let turn = c .before .before .before .loop in (
+      omega arith,
+      pair-more neverFalls refl leb (λ x y xs. refl) (turn .ok) (turn .i) (a .xs .now) 0 (turn .inv .0) (c .before .before .loop-test .taken) (turn .inv .1),
+    )
 
 returns : tie.Need-returns Inv-loop μ-loop
 unfolding neverFalls

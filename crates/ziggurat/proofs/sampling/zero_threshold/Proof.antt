@@ -1,4 +1,4 @@
--- `draw::zero_threshold`: half over the first height is a probability, so its threshold is made.
+-- `sampling::zero_threshold`: half over the first height is a probability, so its threshold is made.
 use mathlib.Core.Path.{_≡_, ap, _∙_}
 use native.Mathlib.Omega.{arith}
 use lib.ListN.{getD}
@@ -15,8 +15,8 @@ use Rattle.ziggurat.proofs.Judging.{getD-there}
 use Rattle.ziggurat.proofs.LayerTables.{some-layers, heights-count, first-finite, first-high}
 use Rattle.ziggurat.proofs.ZeroThreshold.{half-over}
 use borrow.Author.Needs.{needs}
-use Rattle.ziggurat.proofs.draw.zero_threshold.Statement.{statement}
-use Rattle.ziggurat.proofs.draw.zero_threshold.Tie as tie
+use Rattle.ziggurat.proofs.sampling.zero_threshold.Statement.{statement}
+use Rattle.ziggurat.proofs.sampling.zero_threshold.Tie as tie
 
 abbrev layers : tie.Start → Layers
 layers s = tables (s .args .endpoints .now) (s .args .heights .now) (s .args .curve .now)

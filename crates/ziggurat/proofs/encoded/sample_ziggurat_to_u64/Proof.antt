@@ -1,4 +1,4 @@
--- `draw::sample_ziggurat_to_u64` is refused early, refused by its tables, or settled by the filling loop.
+-- `encoded::sample_ziggurat_to_u64` is refused early, refused by its tables, or settled by the filling loop.
 use mathlib.Core.Path.{_≡_, sym, _∙_, subst}
 use mathlib.Core.Bool.{Bool, true, not}
 use mathlib.Core.List.{List, map}
@@ -15,15 +15,16 @@ use Rattle.distr.specs.Layered.{layerTables, layered}
 use Rattle.ziggurat.specs.Tables.{tables}
 use Rattle.ziggurat.proofs.Refusing.{early-passed, early-refused, test-refused, test-passed}
 use borrow.Author.Needs.{needs}
-use Rattle.ziggurat.proofs.draw.sample_ziggurat_to_u64.Statement.{statement}
-use Rattle.ziggurat.proofs.draw.sample_ziggurat_to_u64.Tie as tie
+use Rattle.ziggurat.proofs.encoded.sample_ziggurat_to_u64.Statement.{statement}
+use Rattle.ziggurat.proofs.encoded.sample_ziggurat_to_u64.Tie as tie
 
 abbrev good : tie.Start → Bool
 good s = layerTables (s .args .parameters .«maximum_magnitude») (tables (s .args .endpoints .now) (s .args .heights .now) (s .args .curve .now))
 
 abbrev rules : tie.Start → List ℕ → Read (List ℤ)
 rules s ws =
-    layered (s .args .parameters .«standard_deviation») (tables (s .args .endpoints .now) (s .args .heights .now) (s .args .curve .now)) (length (s .args .output .now)) ws
+    layered (s .args .parameters .«standard_deviation») (tables (s .args .endpoints .now) (s .args .heights .now) (s .args .curve .now))
+    (length (s .args .output .now)) ws
 
 -- the tables are good
 accepted : (c : tie.Else2) → good (c .before .before .before .before .before .before .before .before .before) ≡ true
@@ -35,7 +36,8 @@ early-number-requires c κs = search needs
 returns : tie.Need-returns
 returns c =
     let s = c .before .before .before .before .before .before .before in
-    early-refused (map (encodeWith (s .args .minus-one))) (refuse (not (good s)) 13) (rules s) (s .args .words .now) (s .args .place) (s .args .output .now) _ (c .before .early-number .ensures) (c .if1 .taken)
+    early-refused (map (encodeWith (s .args .minus-one))) (refuse (not (good s)) 13) (rules s) (s .args .words .now) (s .args .place) (s .args .output .now)
+    _ (c .before .early-number .ensures) (c .if1 .taken)
 
 layer-tables-ok-requires : tie.Need-layer-tables-ok-requires
 layer-tables-ok-requires c κs = search needs
@@ -44,7 +46,8 @@ returns-2 : tie.Need-returns-2
 returns-2 c =
     let ok = sym (c .before .layer-tables-ok .ensures) ∙ not-true _ (c .if2 .taken) in
     let s = c .before .before .before .before .before .before .before .before .before in
-    test-refused (map (encodeWith (s .args .minus-one))) (good s) _ (rules s) (s .args .words .now) (s .args .place) (s .args .output .now) (c .before .before .before .early-number .ensures) (c .before .before .if1 .left) 13 (omega arith) ok
+    test-refused (map (encodeWith (s .args .minus-one))) (good s) _ (rules s) (s .args .words .now) (s .args .place) (s .args .output .now)
+    (c .before .before .before .early-number .ensures) (c .before .before .if1 .left) 13 (omega arith) ok
 
 zero-threshold-requires : tie.Need-zero-threshold-requires
 zero-threshold-requires c κs = subst T (sym (accepted c)) tt
@@ -55,7 +58,8 @@ fill-u64-requires c κs =
       subst T (sym (accepted (c .before .before))) tt,
       (
         c .before .zero-threshold .ensures,
-        early-passed (length (a .words .now)) (a .place) (length (a .output .now)) _ (c .before .before .before .before .before .early-number .ensures) (c .before .before .before .before .if1 .left) .0,
+        early-passed (length (a .words .now)) (a .place) (length (a .output .now)) _
+            (c .before .before .before .before .before .early-number .ensures) (c .before .before .before .before .if1 .left) .0,
       ),
     )
 
@@ -64,9 +68,11 @@ same-length c = search needs
 
 returns-3 : tie.Need-returns-3
 returns-3 c =
-    let s = c .before .before .before .before .before .before .before .before .before .before .before .before .before .before in
+    let told = c .before .before .before .before .before in
+    let s = told .before .before .before .before .before .before .before .before .before in
     c .before .before .fill-u64 .ensures
-    ∙ test-passed (map (encodeWith (s .args .minus-one))) (good s) _ (rules s) (s .args .words .now) (s .args .place) (s .args .output .now) (c .before .before .before .before .before .before .before .before .early-number .ensures) (c .before .before .before .before .before .before .before .if1 .left) 13 (accepted (c .before .before .before .before .before))
+    ∙ test-passed (map (encodeWith (s .args .minus-one))) (good s) _ (rules s) (s .args .words .now) (s .args .place) (s .args .output .now)
+    (told .before .before .before .early-number .ensures) (told .before .before .if1 .left) 13 (accepted told)
 
 pub sample-ziggurat-to-u64-spec : {M : Type 1} → statement M
 sample-ziggurat-to-u64-spec =

@@ -1,0 +1,105 @@
+// The layered draw of signed coefficients.
+use crate::refusal;
+use crate::sampling;
+use crate::sampling::Proposal;
+use crate::tables;
+use distr::answer::Answer;
+use distr::gaussian_parameters::GaussianParameters;
+use distr::threshold::Threshold;
+use gaussian_core::encode;
+use words::Told;
+ghost use mathlib.Core.Path.{_≡_};
+ghost use Prim.Native.Nat.{_≤_};
+ghost use lib.Dec.{T};
+ghost use lib.ListN.{length, drop};
+ghost use Rattle.distr.specs.Layered.{layerTables, zeroThreshold, layered};
+ghost use Rattle.distr.specs.Draw.{outcome, settled};
+ghost use Rattle.words.specs.Reading.{thresholdValue};
+ghost use Rattle.ziggurat.specs.Tables.{tables, layeredDraw};
+
+// Tries, and stores each coefficient that passes. Each try reads a word or lacks one, so the words left are a measure. What was stored is
+// cleared where the words run out.
+fn fill_i64(
+    output: &mut [i64],
+    parameters: GaussianParameters,
+    zero: Threshold,
+    endpoints: &[u64],
+    heights: &[f64],
+    curve: &[f64],
+    words: &[u32],
+    place: usize,
+) -> Answer
+    requires { ⌜ T (layerTables (parameters .«maximum_magnitude») (tables (now endpoints) (now heights) (now curve))) ⌝ }
+    requires { ⌜ thresholdValue zero ≡ zeroThreshold (tables (now endpoints) (now heights) (now curve)) ⌝ }
+    requires { ⌜ place ≤ length (now words) ⌝ }
+    ensures { λ r. ⌜ outcome r (now (output .exit)) ≡
+        settled (λ cs. cs) (length (now (words .entry))) place (length (now (output .entry)))
+        (layered (parameters .«standard_deviation») (tables (now (endpoints .entry)) (now (heights .entry)) (now (curve .entry)))
+        (length (now (output .entry))) (drop place (now (words .entry)))) ⌝ }
+{
+    let n = output.len();
+    let mut i: usize = 0;
+    let mut at = place;
+    while i < n {
+        let Proposal::Got(tried) = sampling::propose(endpoints, words, at) else {
+            fill::clear_i64(output);
+            return Answer { number: 23, place };
+        };
+        let told = if sampling::inside(endpoints, tried) {
+            Told::Yes { place: tried.place }
+        } else {
+            sampling::judge_edge(parameters, zero, endpoints, heights, curve, tried, words)
+        };
+        match told {
+            Told::Yes { place: passed } => {
+                output[i] = encode::encode_signed(tried.positive, tried.magnitude as u64);
+                i += 1;
+                at = passed;
+            }
+            Told::No { place: failed } => {
+                at = failed;
+            }
+            Told::Short => {
+                fill::clear_i64(output);
+                return Answer { number: 23, place };
+            }
+        }
+    }
+    Answer {
+        number: 0,
+        place: at,
+    }
+}
+
+// Signed coefficients. The tables are judged first, then the words are read try by try.
+pub fn sample_ziggurat_to_i64(
+    output: &mut [i64],
+    parameters: GaussianParameters,
+    endpoints: &[u64],
+    heights: &[f64],
+    curve: &[f64],
+    words: &[u32],
+    place: usize,
+) -> Answer
+    ensures { λ r. ⌜ outcome r (now (output .exit)) ≡ layeredDraw (λ cs. cs) parameters
+        (tables (now (endpoints .entry)) (now (heights .entry)) (now (curve .entry))) (now (words .entry)) place (now (output .entry)) ⌝ }
+{
+    let number = refusal::early_number(words.len(), place, output.len());
+    if number != 0 {
+        return Answer { number, place };
+    }
+    if !tables::layer_tables_ok(parameters.maximum_magnitude, endpoints, heights, curve) {
+        return Answer { number: 13, place };
+    }
+    let zero = sampling::zero_threshold(parameters.maximum_magnitude, endpoints, heights, curve);
+    fill_i64(
+        output,
+        parameters,
+        zero,
+        endpoints,
+        heights,
+        curve,
+        words,
+        place,
+    )
+}
