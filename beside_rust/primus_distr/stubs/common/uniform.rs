@@ -1,0 +1,1 @@
+// Not among the given files; nothing of it is drawn by.
