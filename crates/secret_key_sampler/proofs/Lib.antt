@@ -2,3 +2,5 @@
 pub mod Preparing
 pub mod Made
 pub mod Held
+pub mod Drawing
+pub mod Answers

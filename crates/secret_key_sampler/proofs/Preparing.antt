@@ -28,7 +28,7 @@ pub judged-same : (n k : ℕ) (m other : SamplingMethod) → n ≡ k → (k ≡ 
 judged-same n k m other e h = rw (e, same-where-zero k m other Empty h)
 
 -- A test whose refusal is 0 does not hold.
-refused-none : (b : Bool) (n : ℕ) → refuse b (suc n) ≡ 0 → b ≡ false
+pub refused-none : (b : Bool) (n : ℕ) → refuse b (suc n) ≡ 0 → b ≡ false
 refused-none true n e = absurd (omega (arith, e))
 refused-none false n e = refl
 
@@ -43,7 +43,7 @@ unfolding secretNumber prepared
 prepares-gaussian d = judged-same _ _ _ _ (made-gaussian-number d) (λ e. ap Gaussian (made-parameters d e))
 
 -- Of two probabilities that are not refused, neither is.
-both-good : (minus plus : Float) → badProbabilities minus plus ≡ false → (badProbability minus ≡ false) × (badProbability plus ≡ false)
+pub both-good : (minus plus : Float) → badProbabilities minus plus ≡ false → (badProbability minus ≡ false) × (badProbability plus ≡ false)
 both-good minus plus h = or-false _ _ (or-false (badProbability minus || badProbability plus) _ h .0)
 
 -- The threshold that a probability's making hands back.

@@ -1,6 +1,8 @@
 // Whole keys from lent words: a prepared sampler with signed and encoded output.
+mod encoded;
 mod fields;
 mod prepare;
+mod signed;
 
 use distr::gaussian_parameters::GaussianParameters;
 use distr::secret_key_distr::BlockOccupancy;
