@@ -1,0 +1,43 @@
+// Lines on standard output.
+use libc::STDOUT_FILENO;
+
+// The label and two numbers.
+pub(crate) fn head(label: &[u8], number: u32, second: u64) {
+    io::write_all(STDOUT_FILENO, label);
+    io::write_all(STDOUT_FILENO, b": ");
+    io::print_decimal(STDOUT_FILENO, number as u64);
+    io::write_all(STDOUT_FILENO, b" ");
+    io::print_decimal(STDOUT_FILENO, second);
+}
+
+// The end of a line.
+pub(crate) fn end() {
+    io::write_all(STDOUT_FILENO, b"\n");
+}
+
+// A space and a number.
+pub(crate) fn unsigned(value: u64) {
+    io::write_all(STDOUT_FILENO, b" ");
+    io::print_decimal(STDOUT_FILENO, value);
+}
+
+// A space and a signed number. The magnitude of a negative one is !value + 1, where no step overflows.
+fn signed(value: i64) {
+    if value < 0 {
+        io::write_all(STDOUT_FILENO, b" -");
+        io::print_decimal(STDOUT_FILENO, (!value) as u64 + 1);
+        return;
+    }
+    unsigned(value as u64);
+}
+
+// A whole line of a signed draw.
+pub(crate) fn line(label: &[u8], number: u32, place: usize, values: &[i64]) {
+    head(label, number, place as u64);
+    let mut i = 0;
+    while i < values.len() {
+        signed(values[i]);
+        i += 1;
+    }
+    end();
+}

@@ -1,0 +1,2 @@
+-- Laws of a draw by probabilities.
+pub mod Judging

@@ -1,0 +1,2 @@
+-- What a draw by probabilities hands back.
+pub mod Probabilities

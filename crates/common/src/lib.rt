@@ -1,0 +1,20 @@
+// The draws that take no sampler, under the Rust's names: values written straight from lent words, by distribution.
+mod binary_probability;
+mod ternary_probabilities;
+
+pub use binary_probability::sample_binary_values_with_probability_to_i64;
+pub use binary_probability::sample_binary_values_with_probability_to_u64;
+pub use fixed_weights::fixed_composition::sample_fixed_composition_ternary_values_to_i64;
+pub use fixed_weights::fixed_composition::sample_fixed_composition_ternary_values_to_u64;
+pub use fixed_weights::fixed_weight::sample_fixed_hamming_weight_binary_values_to_i64;
+pub use fixed_weights::fixed_weight::sample_fixed_hamming_weight_binary_values_to_u64;
+pub use fixed_weights::fixed_weight::sample_fixed_hamming_weight_ternary_values_to_i64;
+pub use fixed_weights::fixed_weight::sample_fixed_hamming_weight_ternary_values_to_u64;
+pub use packed::binary::sample_uniform_binary_values_to_i64;
+pub use packed::binary::sample_uniform_binary_values_to_u64;
+pub use packed::ternary::sample_sparse_ternary_values_to_i64;
+pub use packed::ternary::sample_sparse_ternary_values_to_u64;
+pub use packed::ternary::sample_uniform_ternary_values_to_i64;
+pub use packed::ternary::sample_uniform_ternary_values_to_u64;
+pub use ternary_probabilities::sample_ternary_values_with_probabilities_to_i64;
+pub use ternary_probabilities::sample_ternary_values_with_probabilities_to_u64;
