@@ -1,6 +1,5 @@
 -- The floats of a sampler that code holds are values of f64, by what owning it tells: for a parameter `s`, `held-fits s _ (c .good .0)`.
-use mathlib.Core.Path.{_≡_, sym, subst}
-use mathlib.Core.Bool.{Bool, true, false}
+use mathlib.Core.Bool.{false}
 use mathlib.Core.List.{List}
 use lib.Dec.{T}
 use lib.Ieee.{binary64, fits}
@@ -17,11 +16,8 @@ use Rattle.error_sampler.specs.declared.SamplingMethod.the-variants.{Gau
 use Rattle.error_sampler.specs.Sampler.{prepared, methodFields}
 use Rattle.error_sampler.proofs.SamplingMethod.{the-field as method-field, the-type as method-type}
 use Rattle.error_sampler.proofs.ErrorSampler.{the-type as sampler-type}
+use Rattle.error_sampler.proofs.States.{is-so}
 use Rattle.error_sampler.proofs.Made.{fitting}
-
--- A test that came out true holds.
-is-so : (b : Bool) → b ≡ true → T b
-is-so b e = subst T (sym e) tt
 
 -- The deviation of a method, and that of the method prepared for a distribution.
 method-fits : (m : SamplingMethod) (vs : List Val) → shadow (method-field .row .own (method-type .to m) vs)

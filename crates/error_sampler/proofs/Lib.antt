@@ -1,4 +1,9 @@
--- Laws on making an error sampler, and on which samplers making gives.
+-- Laws on making an error sampler, on which samplers making gives, and on their draws.
+pub mod States
 pub mod Preparing
 pub mod Made
 pub mod Held
+pub mod Methods
+pub mod EncodedDraws
+pub mod CrtDraws
+pub mod Secrets

@@ -85,7 +85,7 @@ unfolding prepared errorNumber eq round
 kept-equal (Distr.Gaussian deviation) z = eq-self deviation (positive-finite deviation (made-positive deviation z))
 kept-equal (Distr.CenteredBinomial eta) z = refl
 
-own-made : (d : ErrorDistribution) → errorNumber d ≡ 0 → T (isMade (record { distribution = d; method = prepared d }))
+pub own-made : (d : ErrorDistribution) → errorNumber d ≡ 0 → T (isMade (record { distribution = d; method = prepared d }))
 own-made d z = rw (z, same-itself (methodFields (prepared d)) (kept-equal d z)) tt
 
 pub some-made : (s : ErrorSampler) (d : ErrorDistribution) → making d ≡ record { number = 0; sampler = s } → T (isMade s)

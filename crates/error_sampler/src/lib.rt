@@ -1,5 +1,9 @@
-// Error coefficients from lent words: a prepared sampler with signed, encoded and CRT output.
+// Error coefficients from lent words: a prepared sampler with signed, encoded and CRT output. The row of one
+// modulus is that part of a CRT output, by crt_row.
+pub mod draw;
+
 use centered_binomial::CenteredBinomial;
+pub use crt::crt_row;
 use distr::error_distribution::ErrorDistribution;
 use distr::gaussian_parameters::GaussianParameters;
 ghost use mathlib.Core.Path.{_≡_};

@@ -1,4 +1,4 @@
--- Laws on making a secret-key sampler, and on which samplers making gives.
+-- Laws on making a secret-key sampler, on which samplers making gives, and on its draws.
 pub mod Preparing
 pub mod Made
 pub mod Held

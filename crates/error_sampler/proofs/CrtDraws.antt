@@ -1,0 +1,221 @@
+-- A CRT draw: refused by its first number or by a table, or the rows made from the last one, which is drawn by the method.
+use mathlib.Core.Path.{_≡_, refl, sym, ap, _∙_, subst}
+use mathlib.Core.Bool.{Bool, true, false, not, cond, _||_, true≢false}
+use mathlib.Core.List.{List, _++_, map, append-nil}
+use Prim.Native.Nat.{ℕ, zero, suc, _*_, _-_, _^_, _<_, _≤_}
+use native.Mathlib.Nat.{le-refl, mul-zero, mul-suc}
+use native.Mathlib.Omega.{arith}
+use borrow.Rule.Slice.PartMut.{midOf, putMid, same-len-mid, mid-len, put-same, post-is}
+use lib.Dec.{T, leb, eqb}
+use lib.ListN.{length, take, drop}
+use lib.Seq.{drop-at, drop-length, length-take-le}
+use lib.IntN.{ℤ}
+use Rattle.distr.specs.declared.answer.Answer.{Answer}
+use Rattle.distr.specs.declared.error_distribution.ErrorDistribution.{ErrorDistribution}
+use Rattle.distr.specs.declared.error_distribution.ErrorDistribution.the-variants as Distr
+use Rattle.distr.specs.Words.{Read, got, short}
+use Rattle.distr.specs.Gaussian.{support, cumulativeLimit, cumulativeTable}
+use Rattle.distr.specs.Layered.{layerTables}
+use Rattle.distr.specs.Distribution.{Distr, error, Tables, onDeviation, coefficients}
+use Rattle.distr.specs.Encoding.{encodeWith, rows}
+use Rattle.distr.specs.Making.{refuse, errorNumber, largest}
+use Rattle.distr.specs.Numbers.{firstOf, stateNumbers, servesCrt, tableNumber}
+use Rattle.distr.specs.Draw.{Outcome, outcome, settled, readDraw, crtDraw}
+use Rattle.distr.proofs.Drawing.{read-settled, read-own}
+use Rattle.crt.specs.Rows.{lastRow, finished}
+use Rattle.crt.proofs.Finishing.{finished-settled}
+use Rattle.draw_laws.proofs.Crt.{layoutNumbers, Layout, layout-passed, crt-unmade, crt-past-end, crt-layout, crt-table, crt-empty, crt-settled}
+use Rattle.error_sampler.specs.declared.ErrorSampler.{ErrorSampler}
+use Rattle.error_sampler.specs.declared.SamplingMethod.{SamplingMethod}
+use Rattle.error_sampler.specs.Sampler.{prepared, magnitudeOf, isMade}
+use Rattle.error_sampler.specs.Drawing.{methodDraw, crtNumber}
+use Rattle.error_sampler.proofs.Made.{fitting, made-method, made-magnitude}
+use Rattle.error_sampler.proofs.States.{is-so, no-elements, zero-or-more, state-first, state-next, state-passed, state-refused}
+use Rattle.error_sampler.proofs.Methods.{made-accepted, method-draw, method-within, method-empty, largest-small}
+
+serves : (d : ErrorDistribution) → servesCrt (error d) ≡ true
+unfolding servesCrt
+serves d = refl
+
+-- The number of a refused table.
+abbrev ofTable : ℕ → Bool
+ofTable k = eqb k 12 || eqb k 13
+
+-- a table's number is such a one, if it refuses
+table-number : (d : ErrorDistribution) (tables : Tables) → 0 < tableNumber (error d) tables → ofTable (tableNumber (error d) tables) ≡ true
+unfolding tableNumber onDeviation
+table-number (Distr.Gaussian deviation) tables h =
+    go (leb (support deviation) cumulativeLimit) (cumulativeTable (support deviation) (tables .bounds)) (layerTables (support deviation) (tables .layers)) h
+  where
+    go : (small bounds layers : Bool) → let k = cond small (refuse (not bounds) 12) (refuse (not layers) 13) in 0 < k → ofTable k ≡ true
+    go true true layers h = absurd (omega arith)
+    go true false layers h = refl
+    go false bounds true h = absurd (omega arith)
+    go false bounds false h = refl
+table-number (Distr.CenteredBinomial eta) tables h = absurd (omega arith)
+
+-- that of what the rules settle is not
+settled-number : {A : Type 0} (write : List ℤ → List A) (words place n : ℕ) (read : Read (List ℤ)) → ofTable (settled write words place n read .number) ≡ false
+unfolding settled
+settled-number write words place n (got cs rest) = refl
+settled-number write words place n short = refl
+
+-- The last row, and the output with another in its place.
+abbrev lastPart : List ℕ → ℕ → List ℕ
+lastPart out count = midOf (length out - count) (length out - (length out - count)) out
+
+abbrev withLast : List ℕ → ℕ → List ℕ → List ℕ
+withLast out count ys = putMid (length out - count) (length out - (length out - count)) out ys
+
+part-length : (out : List ℕ) (count : ℕ) → count ≤ length out → length (lastPart out count) ≡ count
+part-length out count h = mid-len (length out - count) (length out) out (le-refl (length out)) ∙ omega arith
+
+with-length : (out : List ℕ) (count : ℕ) (ys : List ℕ) → length ys ≡ length (lastPart out count) → length (withLast out count ys) ≡ length out
+with-length out count ys e = same-len-mid (length out - count) (length out - (length out - count)) out ys e
+
+with-last : (out : List ℕ) (count : ℕ) (ys : List ℕ) → length ys ≡ length (lastPart out count) → lastRow (withLast out count ys) count ≡ ys
+with-last out count ys e =
+    let start = length out - count in
+    rw (with-length out count ys e)
+    (drop-at (take start out) (ys ++ drop (length out - start) (drop start out)) start (length-take-le start out (omega arith))
+    ∙ ap (λ (l : List ℕ). ys ++ l) (post-is start (length out) out (omega arith) ∙ drop-length out)
+    ∙ append-nil ys)
+
+-- a row is no longer than an output that has an element
+row-fits : (n count rows : ℕ) → n ≡ count * rows → 0 < n → count ≤ n
+row-fits n count zero e h = absurd (omega (arith, mul-zero count))
+row-fits n count (suc rows) e h = omega (arith, mul-suc count rows)
+
+-- the numbers as the code tries them: the state's k, then the layout's
+module _ (s : ErrorSampler) (words place n count : ℕ) (moduli : List ℕ) (k : ℕ) (e : k ≡ firstOf (stateNumbers (isMade s) words place)) where
+  pub tried-state : (k ≡ 0 → ⊥) → k ≡ crtNumber s words place n count moduli
+  unfolding crtNumber
+  tried-state = state-first words place (layoutNumbers (magnitudeOf (s .method)) n count moduli) (isMade s) k e
+
+  pub tried-layout : k ≡ 0 → (most j : ℕ) → most ≡ magnitudeOf (s .method) → j ≡ firstOf (layoutNumbers most n count moduli)
+      → j ≡ crtNumber s words place n count moduli
+  unfolding crtNumber
+  tried-layout z most j m f =
+      f ∙ rw m (state-next words place (layoutNumbers (magnitudeOf (s .method)) n count moduli) (isMade s) k e z)
+
+-- What a draw that no number before the tables' refuses can rely on.
+pub record Ready (d : ErrorDistribution) (made : Bool) (method : SamplingMethod) (count : ℕ) (moduli words : List ℕ) (place n : ℕ) : Type 0 where
+  is-made : made ≡ true
+  same : method ≡ prepared d
+  accepted : errorNumber d ≡ 0
+  here : place ≤ length words
+  good : firstOf (layoutNumbers (largest (error d)) n count moduli) ≡ 0
+
+-- the rows have the output's shape, and one fits in it
+pub crt-row-fits : {d : ErrorDistribution} {made : Bool} {method : SamplingMethod} {count : ℕ} {moduli words : List ℕ} {place n : ℕ}
+    → Ready d made method count moduli words place n → 0 < n → count ≤ n
+crt-row-fits {d} {count = count} {moduli} {n = n} r h =
+    row-fits n count (length moduli) (layout-passed (largest (error d)) n count moduli (r .good) .shape) h
+
+module _ (s : ErrorSampler) (floats : T (fitting s)) (tables : Tables) (count : ℕ) (moduli words : List ℕ) (place : ℕ) (out : List ℕ) where
+  -- 21, 22, 11, 6, 10 or 9
+  pub crt-refused : 0 < crtNumber s (length words) place (length out) count moduli
+      → crtDraw (isMade s) (error (s .distribution)) tables count moduli words place out
+      ≡ record { number = crtNumber s (length words) place (length out) count moduli; place = place; output = out }
+  unfolding crtNumber
+  crt-refused =
+      state-refused (length words) place (layoutNumbers (magnitudeOf (s .method)) (length out) count moduli) out
+      (λ made. crtDraw made (error (s .distribution)) tables count moduli words place out)
+      (crt-unmade (error (s .distribution)) tables count moduli words place out false refl)
+      (crt-past-end (error (s .distribution)) tables count moduli words place out (serves (s .distribution))) (isMade s)
+      (λ made here. rw (made-magnitude s floats (is-so _ made))
+      (crt-layout (error (s .distribution)) tables count moduli words place out (serves (s .distribution)) here))
+
+-- none of them
+pub crt-ready : (s : ErrorSampler) → T (fitting s) → (count : ℕ) (moduli words : List ℕ) (place n : ℕ)
+    → crtNumber s (length words) place n count moduli ≡ 0
+    → Ready (s .distribution) (isMade s) (s .method) count moduli words place n
+unfolding crtNumber
+crt-ready s floats count moduli words place n z =
+    let passed = state-passed (length words) place (layoutNumbers (magnitudeOf (s .method)) n count moduli) (isMade s) z in
+    let made : T (isMade s) = is-so _ (passed .is-made) in
+    record {
+      is-made = passed .is-made;
+      same = made-method s floats made;
+      accepted = made-accepted s made;
+      here = passed .here;
+      good = rw (made-magnitude s floats made) at (passed .later);
+    }
+
+-- Coefficients as residues of 2^64.
+abbrev wrapped : List ℤ → List ℕ
+wrapped = map (encodeWith (2 ^ 64 - 1))
+
+module _ {d : ErrorDistribution} {made : Bool} {method : SamplingMethod} (tables : Tables) (count : ℕ) (moduli words : List ℕ) (place : ℕ) (out : List ℕ)
+    (r : Ready d made method count moduli words place (length out)) where
+  -- 12 or 13
+  refused-table : 0 < tableNumber (error d) tables
+      → crtDraw made (error d) tables count moduli words place out ≡ record { number = tableNumber (error d) tables; place = place; output = out }
+  refused-table t = rw (r .is-made) (crt-table (error d) tables count moduli words place out (serves d) (r .here) (r .good) t)
+
+  -- an empty output is drawn as it stands
+  pub crt-empty-drawn : length out ≡ 0 → methodDraw wrapped method tables words place out ≡ crtDraw made (error d) tables count moduli words place out
+  crt-empty-drawn none =
+      rw (r .same)
+      (zero-or-more (tableNumber (error d) tables)
+      (λ t. method-empty wrapped d (r .accepted) tables words place out none (no-elements out none) (r .here) t
+      ∙ sym (rw (r .is-made) (crt-empty (error d) tables count moduli words place out (serves d) (r .here) (r .good) t none)))
+      (λ t. method-draw wrapped tables words place out d (r .accepted)
+      ∙ read-own wrapped (tableNumber (error d) tables) (coefficients (error d) (length out) tables) words place out (r .here) (omega arith) t
+      ∙ sym (refused-table t)))
+
+  module _ (some : 0 < length out) (answer : Answer) (ys : List ℕ) (size : length ys ≡ length (lastPart out count))
+      (drawn : outcome answer ys ≡ methodDraw wrapped method tables words place (lastPart out count)) where
+    by-rule : outcome answer ys
+        ≡ readDraw wrapped (tableNumber (error d) tables) (coefficients (error d) (length (lastPart out count)) tables) words place (lastPart out count)
+    by-rule = drawn ∙ rw (r .same) (method-draw wrapped tables words place (lastPart out count) d (r .accepted))
+
+    few : length (lastPart out count) ≤ 65536
+    few =
+        omega (
+          arith,
+          part-length out count (crt-row-fits r some),
+          crt-row-fits r some,
+          layout-passed (largest (error d)) (length out) count moduli (r .good) .few,
+        )
+
+    when-table : 0 < tableNumber (error d) tables
+        → outcome answer ys ≡ record { number = tableNumber (error d) tables; place = place; output = lastPart out count }
+    when-table t =
+        by-rule
+        ∙ read-own wrapped (tableNumber (error d) tables) (coefficients (error d) (length (lastPart out count)) tables) words place (lastPart out count)
+        (r .here) few t
+
+    when-settled : tableNumber (error d) tables ≡ 0
+        → outcome answer ys ≡ settled wrapped (length words) place count (coefficients (error d) count tables (drop place words))
+    when-settled t =
+        subst (λ (n : ℕ). outcome answer ys ≡ settled wrapped (length words) place n (coefficients (error d) n tables (drop place words)))
+        (part-length out count (crt-row-fits r some))
+        (by-rule
+        ∙ read-settled wrapped (tableNumber (error d) tables) (coefficients (error d) (length (lastPart out count)) tables) words place (lastPart out count)
+        (r .here) few t)
+
+    -- 12 or 13 leaves the last row as it was, and so the output
+    pub crt-table-kept : ofTable (answer .number) ≡ true
+        → outcome answer (withLast out count ys) ≡ crtDraw made (error d) tables count moduli words place out
+    crt-table-kept h =
+        zero-or-more (tableNumber (error d) tables)
+        (λ t. absurd (true≢false (sym h ∙ ap (λ (o : Outcome ℕ). ofTable (o .number)) (when-settled t) ∙ settled-number wrapped _ _ _ _)))
+        (λ t. ap (λ (o : Outcome ℕ). record { number = o .number; place = o .place; output = withLast out count (o .output) }) (when-table t)
+        ∙ ap (λ (l : List ℕ). record { number = tableNumber (error d) tables; place = place; output = l })
+        (put-same (length out - count) (length out - (length out - count)) out)
+        ∙ sym (refused-table t))
+
+    -- else the rows are made from it, or 23
+    pub crt-finished : ofTable (answer .number) ≡ false
+        → finished (withLast out count ys) count moduli answer ≡ crtDraw made (error d) tables count moduli words place out
+    crt-finished h =
+        zero-or-more (tableNumber (error d) tables)
+        (λ t. finished-settled (withLast out count ys) count moduli answer (largest (error d)) (length words) place
+        (coefficients (error d) count tables (drop place words)) (with-length out count ys size ∙ layout .shape) (omega (arith, largest-small d (r .accepted)))
+        (layout .above) (method-within d tables t count (drop place words)) (rw (with-last out count ys size) (when-settled t))
+        ∙ sym (rw (r .is-made) (crt-settled (error d) tables count moduli words place out (serves d) (r .here) (r .good) t some)))
+        (λ t. absurd (true≢false (sym (table-number d tables t) ∙ sym (ap (λ (o : Outcome ℕ). ofTable (o .number)) (when-table t)) ∙ h)))
+      where
+        layout : Layout (largest (error d)) (length out) count moduli
+        layout = layout-passed (largest (error d)) (length out) count moduli (r .good)

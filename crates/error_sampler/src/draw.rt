@@ -1,0 +1,247 @@
+// The draws of an error sampler: signed coefficients, residues of one modulus, and a row of residues for each of several.
+use crate::ErrorSampler;
+use crate::SamplingMethod;
+use crate::is_made;
+use distr::answer::Answer;
+use signed_discrete_gaussian::sample_gaussian_to_i64;
+use signed_discrete_gaussian::sample_gaussian_to_u64;
+ghost use mathlib.Core.Path.{_≡_};
+ghost use mathlib.Core.List.{map};
+ghost use Rattle.distr.specs.Distribution.{error};
+ghost use Rattle.distr.specs.Encoding.{encodeWith};
+ghost use Rattle.distr.specs.Numbers.{firstOf, stateNumbers};
+ghost use Rattle.counts.specs.Demand3.{Meets};
+ghost use Rattle.distr.specs.Draw.{outcome, encodedDraw, crtDraw};
+ghost use Rattle.signed_discrete_gaussian.specs.Lent.{lent};
+ghost use Rattle.error_sampler.specs.Sampler.{isMade};
+ghost use Rattle.error_sampler.specs.Drawing.{methodDraw, isBinomial, encodedNumber, crtNumber};
+
+// 21 for a sampler that making never gives, 22 for a place past the end of the words, else 0.
+fn state_number(sampler: ErrorSampler, words: usize, place: usize) -> u32
+    ensures { λ r. ⌜ r ≡ firstOf (stateNumbers (isMade sampler) words place) ⌝ }
+{
+    if !is_made(sampler) {
+        return 21;
+    }
+    if words < place {
+        return 22;
+    }
+    0
+}
+
+// Whether the method is the centered binomial's.
+fn is_binomial(method: SamplingMethod) -> bool
+    ensures { λ r. ⌜ r ≡ isBinomial method ⌝ }
+{
+    match method {
+        SamplingMethod::Gaussian(_) => false,
+        SamplingMethod::CenteredBinomial(_) => true,
+        SamplingMethod::Empty => false,
+    }
+}
+
+// The number of an encoded draw of n coefficients: 21, 22, 6, then 10 for a centered binomial's modulus of 0, then 9.
+fn encoded_number(sampler: ErrorSampler, words: usize, place: usize, n: usize, modulus: u64) -> u32
+    ensures { λ r. ⌜ r ≡ encodedNumber sampler words place n modulus ⌝ }
+{
+    let state = state_number(sampler, words, place);
+    if state != 0 {
+        return state;
+    }
+    if 65536 < n {
+        return 6;
+    }
+    let method = sampler.method;
+    if is_binomial(method) & (modulus == 0) {
+        return 10;
+    }
+    sampler.validate_modulus(modulus)
+}
+
+// The number of a CRT draw into n elements: 21, 22, 11, 6, then modulus by modulus 10 before 9.
+fn crt_draw_number(
+    sampler: ErrorSampler,
+    words: usize,
+    place: usize,
+    n: usize,
+    count: usize,
+    moduli: &[u64],
+) -> u32
+    ensures { λ r. ⌜ r ≡ crtNumber sampler words place n count (now (moduli .entry)) ⌝ }
+{
+    let state = state_number(sampler, words, place);
+    if state != 0 {
+        return state;
+    }
+    crt::crt_number(n, count, moduli, sampler.maximum_magnitude())
+}
+
+// Draws residues by the method's family, with the caller's encoding of -1.
+fn sample_residues(
+    method: SamplingMethod,
+    output: &mut [u64],
+    minus_one: u64,
+    words: &[u32],
+    place: usize,
+    bounds: &[u64],
+    endpoints: &[u64],
+    heights: &[f64],
+    curve: &[f64],
+) -> Answer
+    ensures { λ r. ⌜ outcome r (now (output .exit)) ≡
+        methodDraw (map (encodeWith «minus_one»)) method
+        (lent (now (bounds .entry)) (now (endpoints .entry)) (now (heights .entry)) (now (curve .entry)))
+        (now (words .entry)) place (now (output .entry)) ⌝ }
+{
+    match method {
+        SamplingMethod::Gaussian(parameters) => sample_gaussian_to_u64(
+            output,
+            minus_one,
+            parameters,
+            bounds,
+            endpoints,
+            heights,
+            curve,
+            words,
+            place,
+        ),
+        SamplingMethod::CenteredBinomial(sampler) => {
+            sampler.sample_to_u64(output, minus_one, words, place)
+        }
+        SamplingMethod::Empty => Answer { number: 21, place },
+    }
+}
+
+impl ErrorSampler {
+    // Draws signed coefficients over the whole output. The family is chosen once, before any coefficient is drawn.
+    pub fn sample_signed_to(
+        self,
+        output: &mut [i64],
+        words: &[u32],
+        place: usize,
+        bounds: &[u64],
+        endpoints: &[u64],
+        heights: &[f64],
+        curve: &[f64],
+    ) -> Answer
+        ensures { λ r. ⌜ Meets (isMade self) (error (self .distribution))
+            (lent (now (bounds .entry)) (now (endpoints .entry)) (now (heights .entry)) (now (curve .entry)))
+            (now (words .entry)) place (now (output .entry)) (outcome r (now (output .exit))) ⌝ }
+    {
+        if !is_made(self) {
+            return Answer { number: 21, place };
+        }
+        let method = self.method;
+        match method {
+            SamplingMethod::Gaussian(parameters) => sample_gaussian_to_i64(
+                output,
+                parameters,
+                bounds,
+                endpoints,
+                heights,
+                curve,
+                words,
+                place,
+            ),
+            SamplingMethod::CenteredBinomial(sampler) => {
+                sampler.sample_to_i64(output, words, place)
+            }
+            SamplingMethod::Empty => Answer { number: 21, place },
+        }
+    }
+
+    // Draws residues of one modulus, which must be above the largest magnitude. A centered binomial's is a CRT draw of one
+    // row, so a modulus of 0 gives 10 there.
+    pub fn sample_encoded_to(
+        self,
+        output: &mut [u64],
+        modulus: u64,
+        words: &[u32],
+        place: usize,
+        bounds: &[u64],
+        endpoints: &[u64],
+        heights: &[f64],
+        curve: &[f64],
+    ) -> Answer
+        ensures { λ r. ⌜ outcome r (now (output .exit)) ≡
+            encodedDraw (isMade self) (error (self .distribution))
+            (lent (now (bounds .entry)) (now (endpoints .entry)) (now (heights .entry)) (now (curve .entry)))
+            modulus (now (words .entry)) place (now (output .entry)) ⌝ }
+    {
+        let number = encoded_number(self, words.len(), place, output.len(), modulus);
+        if number != 0 {
+            return Answer { number, place };
+        }
+        let method = self.method;
+        let minus_one = modulus - 1;
+        sample_residues(
+            method,
+            output,
+            minus_one,
+            words,
+            place,
+            bounds,
+            endpoints,
+            heights,
+            curve,
+        )
+    }
+
+    // Draws each coefficient once and writes its residue for every modulus, one row after the other. The coefficients are
+    // drawn into the last row as residues of 2^64, and the rows are made from it. A refused table leaves the output as it was.
+    // An empty output is drawn too, which reads nothing: its tables are judged.
+    pub fn sample_crt_to(
+        self,
+        output: &mut [u64],
+        count: usize,
+        moduli: &[u64],
+        words: &[u32],
+        place: usize,
+        bounds: &[u64],
+        endpoints: &[u64],
+        heights: &[f64],
+        curve: &[f64],
+    ) -> Answer
+        ensures { λ r. ⌜ outcome r (now (output .exit)) ≡
+            crtDraw (isMade self) (error (self .distribution))
+            (lent (now (bounds .entry)) (now (endpoints .entry)) (now (heights .entry)) (now (curve .entry)))
+            count (now (moduli .entry)) (now (words .entry)) place (now (output .entry)) ⌝ }
+    {
+        let n = output.len();
+        let number = crt_draw_number(self, words.len(), place, n, count, moduli);
+        if number != 0 {
+            return Answer { number, place };
+        }
+        let method = self.method;
+        let minus_one = 0xffff_ffff_ffff_ffff;
+        if n == 0 {
+            return sample_residues(
+                method,
+                output,
+                minus_one,
+                words,
+                place,
+                bounds,
+                endpoints,
+                heights,
+                curve,
+            );
+        }
+        let last = n - count;
+        let answer = sample_residues(
+            method,
+            &mut output[last..],
+            minus_one,
+            words,
+            place,
+            bounds,
+            endpoints,
+            heights,
+            curve,
+        );
+        if (answer.number == 12) | (answer.number == 13) {
+            return answer;
+        }
+        crt::finish(output, count, moduli, answer)
+    }
+}
