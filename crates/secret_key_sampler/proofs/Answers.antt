@@ -23,13 +23,13 @@ use Rattle.secret_key_sampler.proofs.Made.{fitting, made-number, made-m
 use Rattle.secret_key_sampler.proofs.Drawing.{prepared-signed, prepared-encoded}
 
 -- What a test told, said of the sampler.
-is-unmade : (s : SecretKeySampler) (told : Bool) → told ≡ isMade s → not told ≡ true → isMade s ≡ false
+pub is-unmade : (s : SecretKeySampler) (told : Bool) → told ≡ isMade s → not told ≡ true → isMade s ≡ false
 is-unmade s told e h = sym e ∙ not-true told h
 
-is-made : (s : SecretKeySampler) (told : Bool) → told ≡ isMade s → not told ≡ false → isMade s ≡ true
+pub is-made : (s : SecretKeySampler) (told : Bool) → told ≡ isMade s → not told ≡ false → isMade s ≡ true
 is-made s told e h = sym e ∙ not-false told h
 
-made-so : (s : SecretKeySampler) → isMade s ≡ true → T (isMade s)
+pub made-so : (s : SecretKeySampler) → isMade s ≡ true → T (isMade s)
 made-so s e = subst T (sym e) tt
 
 -- the modulus's number, by the largest magnitude that the method keeps

@@ -4,3 +4,4 @@ pub mod Made
 pub mod Held
 pub mod Drawing
 pub mod Answers
+pub mod CrtAnswers

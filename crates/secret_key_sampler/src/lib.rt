@@ -1,4 +1,5 @@
-// Whole keys from lent words: a prepared sampler with signed and encoded output.
+// Whole keys from lent words: a prepared sampler with signed, encoded and CRT output.
+mod crt;
 mod encoded;
 mod fields;
 mod prepare;
