@@ -1,0 +1,223 @@
+-- A request's making and draw, as its functions do them, are the draw that a sheet asks for.
+use Prim.Native.Nat.{ℕ, zero, suc, _<_, _≤_}
+use native.Mathlib.Omega.{arith}
+use mathlib.Core.Path.{_≡_, refl, sym, _∙_, ap, subst}
+use mathlib.Core.Bool.{Bool, true, false, cond}
+use mathlib.Core.List.{List, [], _∷_, map}
+use borrow.Author.Tests.{lt-ltb, le-ltb, le-leb, lt-leb, eq-eqb, ne-eqb, eqb-true}
+use lib.Dec.{T, eqb}
+use lib.ListN.{length, take, replicate}
+use lib.IntN.{ℤ, pos}
+use Rattle.distr.specs.declared.secret_key_distr.SecretKeyDistr.{SecretKeyDistr}
+use Rattle.distr.specs.declared.error_distribution.ErrorDistribution.{ErrorDistribution}
+use Rattle.distr.specs.Distribution.{Distr, secret, error}
+use Rattle.distr.specs.Making.{makingNumber, secretNumber, errorNumber}
+use Rattle.distr.specs.Draw.{Outcome, judged, encodedDraw}
+use Rattle.distr.proofs.Writing.{map-replicate}
+use Rattle.secret_key_sampler.specs.declared.MadeSampler.{MadeSampler as MadeSecret}
+use Rattle.secret_key_sampler.specs.Sampler.{making as makingSecret, isMade as isMadeSecret}
+use Rattle.secret_key_sampler.proofs.Made.{some-made as some-secret}
+use Rattle.error_sampler.specs.declared.MadeSampler.{MadeSampler as MadeError}
+use Rattle.error_sampler.specs.Sampler.{making as makingError, isMade as isMadeError}
+use Rattle.error_sampler.proofs.Made.{some-made as some-error}
+use Rattle.sheet.specs.declared.request.Request.{Request}
+use Rattle.sheet.specs.declared.request.Request.the-variants.{Secret, Error, Refused}
+use Rattle.sheet.specs.Text.{answerText}
+use Rattle.sheet.proofs.WellFormed.{Good, well-formed}
+use Rattle.sheet.specs.Sheet.{fieldsOf, wordsAt, malformed, kindDistr, noTables, residues, drawOf, outcomeText, fieldsText, sheetText}
+use Rattle.sheet.specs.Request.{knownKind, requestOf, made, madeSigned, madeEncoded, requestSigned, requestEncoded, answered}
+use Rattle.sheet.specs.Written.{Written}
+use Rattle.sheet.specs.declared.fields.Fields.{Fields}
+
+holds : (b : Bool) → T b → b ≡ true
+holds true h = refl
+holds false h = absurd h
+
+-- What a sampler's making hands back is the number of its distribution and, where that is 0, a made sampler of it.
+pub secret-number : (d : SecretKeyDistr) → makingSecret d .number ≡ makingNumber (secret d)
+unfolding makingNumber
+secret-number d = go (eqb (secretNumber d) 0) refl
+  where
+    go : (b : Bool) → eqb (secretNumber d) 0 ≡ b → makingSecret d .number ≡ secretNumber d
+    go true e = rw e (sym (eqb-true (secretNumber d) 0 e))
+    go false e = rw e
+
+pub secret-made : (d : SecretKeyDistr) (m : MadeSecret) → m ≡ makingSecret d → m .number ≡ 0
+    → (isMadeSecret (m .sampler) ≡ true) × (m .sampler .distr ≡ d)
+unfolding makingNumber
+secret-made d m h z =
+    let number : secretNumber d ≡ 0 = sym (secret-number d) ∙ sym (ap (λ (r : MadeSecret). r .number) h) ∙ z in
+    let own : makingSecret d .sampler .distr ≡ d = rw (eq-eqb (secretNumber d) 0 number) in
+    let whole : m ≡ record { number = 0; sampler = m .sampler } = ap (λ (k : ℕ). record { number = k; sampler = m .sampler }) z in
+    (holds (isMadeSecret (m .sampler)) (some-secret (m .sampler) d (sym h ∙ whole)), ap (λ (r : MadeSecret). r .sampler .distr) h ∙ own)
+
+pub error-number : (d : ErrorDistribution) → makingError d .number ≡ makingNumber (error d)
+unfolding makingNumber
+error-number d = go (eqb (errorNumber d) 0) refl
+  where
+    go : (b : Bool) → eqb (errorNumber d) 0 ≡ b → makingError d .number ≡ errorNumber d
+    go true e = rw e (sym (eqb-true (errorNumber d) 0 e))
+    go false e = rw e
+
+pub error-made : (d : ErrorDistribution) (m : MadeError) → m ≡ makingError d → m .number ≡ 0
+    → (isMadeError (m .sampler) ≡ true) × (m .sampler .distribution ≡ d)
+unfolding makingNumber
+error-made d m h z =
+    let number : errorNumber d ≡ 0 = sym (error-number d) ∙ sym (ap (λ (r : MadeError). r .number) h) ∙ z in
+    let own : makingError d .sampler .distribution ≡ d = rw (eq-eqb (errorNumber d) 0 number) in
+    let whole : m ≡ record { number = 0; sampler = m .sampler } = ap (λ (k : ℕ). record { number = k; sampler = m .sampler }) z in
+    (holds (isMadeError (m .sampler)) (some-error (m .sampler) d (sym h ∙ whole)), ap (λ (r : MadeError). r .sampler .distribution) h ∙ own)
+
+-- A number of making that is not 0 ends the request; else the draw is its answer.
+made-refused : {A : Type 0} (d : Distr) (number : ℕ) (out : List A) (drawn : Outcome A) → number ≡ makingNumber d → (number ≡ 0 → ⊥)
+    → record { number = number; place = 0; output = out } ≡ made d out drawn
+unfolding judged
+made-refused d number out drawn e ne = rw (← e, ne-eqb number 0 ne)
+
+made-drawn : {A : Type 0} (d : Distr) (out : List A) (drawn : Outcome A) → makingNumber d ≡ 0 → drawn ≡ made d out drawn
+unfolding judged
+made-drawn d out drawn z = rw z
+
+pub secret-refused : {A : Type 0} (d : SecretKeyDistr) (m : MadeSecret) (out : List A) (drawn : Outcome A) → m ≡ makingSecret d → (m .number ≡ 0 → ⊥)
+    → record { number = m .number; place = 0; output = out } ≡ made (secret d) out drawn
+secret-refused d m out drawn h = made-refused (secret d) (m .number) out drawn (ap (λ (r : MadeSecret). r .number) h ∙ secret-number d)
+
+pub secret-drawn : {A : Type 0} (draws : Bool → Distr → Outcome A) (d : SecretKeyDistr) (m : MadeSecret) (out : List A) → m ≡ makingSecret d
+    → m .number ≡ 0 → draws (isMadeSecret (m .sampler)) (secret (m .sampler .distr)) ≡ made (secret d) out (draws true (secret d))
+secret-drawn draws d m out h z =
+    let both = secret-made d m h z in
+    ap (λ (b : Bool). draws b (secret (m .sampler .distr))) (both .0) ∙ ap (λ (e : SecretKeyDistr). draws true (secret e)) (both .1)
+    ∙ made-drawn (secret d) out (draws true (secret d)) (sym (secret-number d) ∙ sym (ap (λ (r : MadeSecret). r .number) h) ∙ z)
+
+pub error-refused : {A : Type 0} (d : ErrorDistribution) (m : MadeError) (out : List A) (drawn : Outcome A) → m ≡ makingError d → (m .number ≡ 0 → ⊥)
+    → record { number = m .number; place = 0; output = out } ≡ made (error d) out drawn
+error-refused d m out drawn h = made-refused (error d) (m .number) out drawn (ap (λ (r : MadeError). r .number) h ∙ error-number d)
+
+pub error-drawn : {A : Type 0} (draws : Bool → Distr → Outcome A) (d : ErrorDistribution) (m : MadeError) (out : List A) → m ≡ makingError d
+    → m .number ≡ 0 → draws (isMadeError (m .sampler)) (error (m .sampler .distribution)) ≡ made (error d) out (draws true (error d))
+error-drawn draws d m out h z =
+    let both = error-made d m h z in
+    ap (λ (b : Bool). draws b (error (m .sampler .distribution))) (both .0) ∙ ap (λ (e : ErrorDistribution). draws true (error e)) (both .1)
+    ∙ made-drawn (error d) out (draws true (error d)) (sym (error-number d) ∙ sym (ap (λ (r : MadeError). r .number) h) ∙ z)
+
+-- A draw by the kind of request is the draw of the distribution that was asked for.
+unfoldable pub byRequest : {A : Type 0} → (Distr → Outcome A) → Outcome A → Request → Outcome A
+byRequest draws refusal (Secret d) = draws (secret d)
+byRequest draws refusal (Error d) = draws (error d)
+byRequest draws refusal Refused = refusal
+
+by-request : {A : Type 0} (draws : Distr → Outcome A) (refusal : Outcome A) (b : Bool) (d : Distr)
+    → byRequest draws refusal (requestOf b d) ≡ cond b (draws d) refusal
+unfolding byRequest requestOf
+by-request draws refusal true (secret d) = refl
+by-request draws refusal true (error d) = refl
+by-request draws refusal false d = refl
+
+pub signed-request : (kind a b : ℕ) (words : List ℕ) (out : List ℤ) {q t : Request} → q ≡ t → q ≡ requestOf (knownKind kind) (kindDistr kind a b)
+    → byRequest (λ (d : Distr). madeSigned d words out) (record { number = 14; place = 0; output = out }) t ≡ requestSigned kind a b words out
+unfolding requestSigned
+signed-request kind a b words out e h = rw (← e, h) (by-request (λ (d : Distr). madeSigned d words out) _ (knownKind kind) (kindDistr kind a b))
+
+pub encoded-request : (kind a b modulus : ℕ) (words out : List ℕ) {q t : Request} → q ≡ t → q ≡ requestOf (knownKind kind) (kindDistr kind a b)
+    → byRequest (λ (d : Distr). madeEncoded d modulus words out) (record { number = 14; place = 0; output = out }) t
+    ≡ requestEncoded kind a b modulus words out
+unfolding requestEncoded
+encoded-request kind a b modulus words out e h =
+    rw (← e, h) (by-request (λ (d : Distr). madeEncoded d modulus words out) _ (knownKind kind) (kindDistr kind a b))
+
+-- A number that is not below k and not k is above it.
+pub pass : (k kind : ℕ) → k ≤ kind → (kind ≡ k → ⊥) → suc k ≤ kind
+pass k kind h ne = omega (arith, h, ne)
+
+pub other-kind : (kind : ℕ) (d : Distr) → 9 < kind → Refused ≡ requestOf (knownKind kind) d
+unfolding knownKind requestOf
+other-kind kind d h = rw (le-leb 1 kind (omega (arith, h)), lt-leb kind 9 h)
+
+-- A request of a kind that is known, on zeros, is the draw of the sheet.
+known-kind : (kind : ℕ) → 1 ≤ kind → kind ≤ 9 → knownKind kind ≡ true
+unfolding knownKind
+known-kind kind from to = rw (le-leb 1 kind from, le-leb kind 9 to)
+
+signed-draw : (kind n a b modulus : ℕ) (words : List ℕ) → knownKind kind ≡ true → modulus ≡ 0
+    → requestSigned kind a b words (replicate n (pos 0)) ≡ drawOf kind n a b modulus words
+unfolding requestSigned drawOf
+signed-draw kind n a b modulus words known z = rw (known, z)
+
+residues-judged : (number : ℕ) (out : List ℕ) (o : Outcome ℕ) → residues (judged number 0 out o) ≡ judged number 0 (map pos out) (residues o)
+unfolding judged
+residues-judged number out o = go (eqb number 0) refl
+  where
+    go : (b : Bool) → eqb number 0 ≡ b → residues (judged number 0 out o) ≡ judged number 0 (map pos out) (residues o)
+    go true e = rw e
+    go false e = rw e
+
+encoded-draw : (kind n a b modulus : ℕ) (words : List ℕ) → knownKind kind ≡ true → (modulus ≡ 0 → ⊥)
+    → residues (requestEncoded kind a b modulus words (replicate n 0)) ≡ drawOf kind n a b modulus words
+unfolding requestEncoded drawOf
+encoded-draw kind n a b modulus words known ne =
+    let d = kindDistr kind a b in
+    rw (known, ne-eqb modulus 0 ne, ← map-replicate pos n 0)
+    (residues-judged (makingNumber d) (replicate n 0) (encodedDraw true d noTables modulus words 0 (replicate n 0)))
+
+-- The text of a draw on zeros is the text of the fields.
+pub signed-text : (f : Fields) (words : List ℕ) (room : List ℤ) (o : Outcome ℤ) → 1 ≤ f .kind → f .kind ≤ 9 → f .modulus ≡ 0
+    → room ≡ replicate (f .n) (pos 0) → o ≡ requestSigned (f .kind) (f .a) (f .b) words room → outcomeText (f .n) o ≡ fieldsText f words
+signed-text f words room o from to z e h =
+    ap (outcomeText (f .n)) (h ∙ rw e (signed-draw (f .kind) (f .n) (f .a) (f .b) (f .modulus) words (known-kind (f .kind) from to) z))
+
+pub encoded-text : (f : Fields) (words room : List ℕ) (o : Outcome ℕ) → 1 ≤ f .kind → f .kind ≤ 9 → 0 < f .modulus
+    → room ≡ replicate (f .n) 0 → o ≡ requestEncoded (f .kind) (f .a) (f .b) (f .modulus) words room → outcomeText (f .n) (residues o) ≡ fieldsText f words
+encoded-text f words room o from to m e h =
+    ap (outcomeText (f .n)) (ap residues h
+    ∙ rw e (encoded-draw (f .kind) (f .n) (f .a) (f .b) (f .modulus) words (known-kind (f .kind) from to) (λ z. omega (arith, z, m))))
+
+-- The text of a refusal says nothing but its number.
+pub refusal-text : (number place n : ℕ) (coefficients : List ℤ) → (number ≡ 0 → ⊥) → answerText number 0 0 [] ≡ answerText number place n coefficients
+unfolding answerText
+refusal-text number place n coefficients ne = rw (ne-eqb number 0 ne)
+
+pub success-text : (number place size n : ℕ) (coefficients : List ℤ) → number ≡ 0 → size ≡ n
+    → answerText 0 place size coefficients ≡ answerText number place n coefficients
+success-text number place size n coefficients z e = rw (z, e)
+
+-- Bytes that are equal stand there as well.
+pub written-same : {t u : List ℕ} {i j : ℕ} {xs ys : List ℕ} → xs ≡ ys → Written t i xs u j → Written t i ys u j
+written-same {t} {u} {i} {j} e w = subst (λ (bytes : List ℕ). Written t i bytes u j) e w
+
+-- The length of a prefix.
+pub prefix-length : {A : Type 0} (n : ℕ) (l : List A) → n ≤ length l → n ≡ length (take n l)
+prefix-length zero l h = refl
+prefix-length (suc n) [] h = absurd (omega (arith, h))
+prefix-length (suc n) (a ∷ l) h = ap suc (prefix-length n l (omega (arith, h)))
+
+-- An answer in a text that is long enough, and in one that is not.
+pub answered-long : (s text after : List ℕ) (end : ℕ) → 98304 ≤ length text → Written text 0 (sheetText s) after end
+    → ((end, after) ≡ answered s text) × ((end ≤ length after) × (end ≡ length (take end after)))
+unfolding answered
+answered-long s text after end h w =
+    (ap (λ (k : ℕ). (k, after)) (omega (arith, w .place)) ∙ ap (λ (l : List ℕ). (length (sheetText s), l)) (w .text) ∙ rw (le-ltb (length text) 98304 h), (w .inside, prefix-length end after (w .inside)))
+
+pub answered-short : (s text : List ℕ) → length text < 98304 → ((0, text) ≡ answered s text) × ((0 ≤ length text) × (0 ≡ length (take 0 text)))
+unfolding answered
+answered-short s text h = (rw (lt-ltb (length text) 98304 h), (omega arith, prefix-length 0 text (omega arith)))
+
+-- The text of a sheet, malformed or not.
+pub malformed-text : (s : List ℕ) → malformed s ≡ true → answerText 14 0 0 [] ≡ sheetText s
+unfolding sheetText
+malformed-text s e = rw e
+
+pub sheet-text : (s : List ℕ) (f : Fields) (words : List ℕ) (size : ℕ) → f ≡ fieldsOf s → malformed s ≡ false → size ≡ f .count
+    → words ≡ wordsAt s (f .offset) size → fieldsText f words ≡ sheetText s
+unfolding sheetText
+sheet-text s f words size read good e h =
+    ap (fieldsText f) (h ∙ ap (wordsAt s (f .offset)) e) ∙ ap (λ (g : Fields). fieldsText g (wordsAt s (g .offset) (g .count))) read ∙ rw good
+
+-- The fields that were read from a sheet that is not malformed are good.
+pub good-read : (s : List ℕ) (f : Fields) → f ≡ fieldsOf s → malformed s ≡ false → Good f (length s)
+good-read s f e h = subst (λ (g : Fields). Good g (length s)) (sym e) (well-formed s h .good)
+
+-- The first of many equal elements.
+pub take-replicate : {A : Type 0} (n m : ℕ) (a : A) → n ≤ m → take n (replicate m a) ≡ replicate n a
+take-replicate zero m a h = refl
+take-replicate (suc n) zero a h = absurd (omega (arith, h))
+take-replicate (suc n) (suc m) a h = ap (λ (l : List _). a ∷ l) (take-replicate n m a (omega (arith, h)))
