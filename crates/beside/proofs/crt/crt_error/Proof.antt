@@ -1,0 +1,45 @@
+-- `crt_error` answers the number of making, or draws with the sampler that was made.
+use mathlib.Core.Path.{_∙_}
+use mathlib.Core.Bool.{Bool}
+use Rattle.distr.specs.Distribution.{Distr}
+use Rattle.distr.specs.Draw.{crtDraw}
+use Rattle.signed_discrete_gaussian.specs.Lent.{lent}
+use Rattle.beside.proofs.Making.{error-refused, error-made}
+use borrow.Author.Needs.{needs}
+use Rattle.beside.proofs.crt.crt_error.Statement.{statement}
+use Rattle.beside.proofs.crt.crt_error.Tie as tie
+
+try-new-requires : tie.Need-try-new-requires
+try-new-requires c κs = search needs
+
+returns : tie.Need-returns
+returns c =
+    let made = c .before .before .try-new in
+    error-refused _ _ (c .before .before .before .before .before .before .before .before .before .before .args .distr)
+    (made .result) (made .ensures) _ (c .if1 .taken)
+
+sample-crt-to-requires : tie.Need-sample-crt-to-requires
+sample-crt-to-requires c κs = search needs
+
+same-length : tie.Need-same-length
+same-length c = search needs
+
+returns-2 : tie.Need-returns-2
+returns-2 c =
+    let a = c .before .before .before .before .before .before .before .before .before .before .before .before .before .before .before .args in
+    let tables = lent (a .bounds .now) (a .endpoints .now) (a .heights .now) (a .curve .now) in
+    let made = c .before .before .before .before .before .before .before .try-new in
+    c .before .before .sample-crt-to .ensures
+    ∙ error-made (a .place) (a .output .now) (a .distr) (made .result) (made .ensures)
+    (λ (made : Bool) (d : Distr). crtDraw made d tables (a .count) (a .moduli .now) (a .words .now) (a .place) (a .output .now))
+    (c .before .before .before .before .before .if1 .left)
+
+pub crt-error-spec : {M : Type 1} → statement M
+crt-error-spec =
+    tie.close
+    (tie.spec
+    try-new-requires
+    returns
+    sample-crt-to-requires
+    same-length
+    returns-2)
