@@ -77,7 +77,7 @@ module _ (deviation : Float) (t : Layers) (i m : ℕ) (ws : List ℕ) where
   unfolding judgeEdge mapRead
   fringe-got some u rest e = rw (ne-eqb m 0 some, e)
 
--- a candidate of good tables: inside the layer above it passes, another is left to the edge
+-- a trial of good tables: inside the layer above it passes, another is left to the edge
 module _ (deviation : Float) (M : ℕ) (t : Layers) (ok : T (layerTables M t)) (i m : ℕ) (on : OnLayer (t .endpoints) i m) (ws : List ℕ) (place : ℕ) where
   -- both sides of the test are f64 exactly
   exact : le (float m) (x t (i - 1)) ≡ leb m (getD (t .endpoints) (i - 1) 0)

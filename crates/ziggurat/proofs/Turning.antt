@@ -10,7 +10,7 @@ use Rattle.distr.specs.Words.{short}
 use Rattle.distr.specs.Gaussian.{signed}
 use Rattle.distr.specs.Layered.{Layers, judge, layeredOne}
 use Rattle.words.specs.declared.Told.the-variants.{Yes, No, Short as NotTold}
-use Rattle.ziggurat.specs.declared.sampling.Candidate.{Candidate}
+use Rattle.ziggurat.specs.declared.sampling.Trial.{Trial}
 use Rattle.ziggurat.specs.declared.sampling.Proposal.the-variants.{Got, Short}
 use Rattle.ziggurat.specs.Sampling.{Proposes, Judges}
 use Rattle.ziggurat.proofs.Filling.{Whole, Filled, filled-more, filled-skip, filled-short}
@@ -22,7 +22,7 @@ module _ {A : Type 0} (put : ℤ → A) (deviation : Float) (t : Layers) (words 
   not-proposed p =
       filled-short put (layeredOne deviation t) words place out₀ i at out more filled (none-proposed deviation t (drop at words) (sym (p .reads)))
 
-  module _ (tried : Candidate) (proposed : Proposes (t .endpoints) words at (Got tried)) where
+  module _ (tried : Trial) (proposed : Proposes (t .endpoints) words at (Got tried)) where
     pub not-judged : Judges words (tried .place) NotTold (judge deviation t (tried .layer) (tried .magnitude) (drop (tried .place) words))
         → Whole put (layeredOne deviation t) words place out₀ ≡ short
     not-judged j =

@@ -45,7 +45,7 @@ pub record Proposes (endpoints ws : List ℕ) (place : ℕ) (r : Proposal) : Typ
   pub reads : proposalRead ws r ≡ propose endpoints (drop place ws)
   pub sound : proposalSound endpoints ws place r
 
--- The same of what is told of a candidate, which may pass no word.
+-- The same of what is told of a trial, which may pass no word.
 abbrev pub toldRead : List ℕ → Told → Read Bool
 toldRead ws (Yes place) = got true (drop place ws)
 toldRead ws (No place) = got false (drop place ws)

@@ -14,7 +14,7 @@ ghost use Rattle.ziggurat.specs.Tables.{tables, layerSizes};
 ghost use Rattle.ziggurat.specs.Sampling.{Proposes, OnLayer, isInside, Judges, judgeEdge};
 
 // A proposed magnitude on a layer, with its sign and the place after its words.
-pub struct Candidate {
+pub struct Trial {
     pub layer: usize,
     pub positive: bool,
     pub magnitude: u32,
@@ -23,7 +23,7 @@ pub struct Candidate {
 
 // What a try proposes.
 pub enum Proposal {
-    Got(Candidate),
+    Got(Trial),
     Short,
 }
 
@@ -46,7 +46,7 @@ pub(crate) fn propose(endpoints: &[u64], words: &[u32], place: usize) -> Proposa
     let Taken::Got { value, place: next } = words::uniform_below(words, place + 2, end + 1) else {
         return Proposal::Short;
     };
-    Proposal::Got(Candidate {
+    Proposal::Got(Trial {
         layer,
         positive,
         magnitude: value as u32,
@@ -54,8 +54,8 @@ pub(crate) fn propose(endpoints: &[u64], words: &[u32], place: usize) -> Proposa
     })
 }
 
-// Whether a candidate is inside the layer above, where it passes without a word. The endpoints are compared as integers.
-pub(crate) fn inside(endpoints: &[u64], tried: Candidate) -> bool
+// Whether a trial is inside the layer above, where it passes without a word. The endpoints are compared as integers.
+pub(crate) fn inside(endpoints: &[u64], tried: Trial) -> bool
     requires { ⌜ OnLayer (now endpoints) (tried .layer) (tried .magnitude) ⌝ }
     ensures { λ r. ⌜ r ≡ isInside (now (endpoints .entry)) (tried .layer) (tried .magnitude) ⌝ }
 {
@@ -63,14 +63,14 @@ pub(crate) fn inside(endpoints: &[u64], tried: Candidate) -> bool
     (tried.magnitude as u64 <= endpoints[layer - 1]) & (0 < tried.magnitude)
 }
 
-// Whether a candidate passes that is not inside the layer above: 0 by its threshold, another on the fringe by a word.
+// Whether a trial passes that is not inside the layer above: 0 by its threshold, another on the fringe by a word.
 pub(crate) fn judge_edge(
     parameters: GaussianParameters,
     zero: Threshold,
     endpoints: &[u64],
     heights: &[f64],
     curve: &[f64],
-    tried: Candidate,
+    tried: Trial,
     words: &[u32],
 ) -> Told
     requires { ⌜ T (layerTables (parameters .«maximum_magnitude») (tables (now endpoints) (now heights) (now curve))) ⌝ }

@@ -14,7 +14,7 @@ use Rattle.distr.specs.Layered.{Layers, judge, layeredOne}
 use Rattle.words.specs.declared.Told.{Told}
 use Rattle.words.specs.declared.Told.the-variants.{Yes, No, Short as NotTold}
 use Rattle.words.proofs.Places.{place-of}
-use Rattle.ziggurat.specs.declared.sampling.Candidate.{Candidate}
+use Rattle.ziggurat.specs.declared.sampling.Trial.{Trial}
 use Rattle.ziggurat.specs.declared.sampling.Proposal.the-variants.{Got, Short}
 use Rattle.ziggurat.specs.Tables.{tables}
 use Rattle.ziggurat.specs.Sampling.{Proposes, Judges}
@@ -33,7 +33,7 @@ Inv-loop output₀ minus-one parameters zero endpoints heights curve words place
 abbrev μ-loop : tie.MeasureT-loop
 μ-loop output₀ minus-one parameters zero endpoints heights curve words place n i₀ at₀ output i at = length words - at
 
--- a turn up to its candidate
+-- a turn up to its trial
 abbrev start : tie.After-tried Inv-loop μ-loop → tie.Start Inv-loop μ-loop
 start c = c .before .before .before .before .before .before .before .before .before .before
 
@@ -43,7 +43,7 @@ deviation s = s .args .parameters .«standard_deviation»
 abbrev layers : tie.Start Inv-loop μ-loop → Layers
 layers s = tables (s .args .endpoints .now) (s .args .heights .now) (s .args .curve .now)
 
-abbrev tried : tie.After-tried Inv-loop μ-loop → Candidate
+abbrev tried : tie.After-tried Inv-loop μ-loop → Trial
 tried c = c .tried .given .0 .0
 
 abbrev turn : tie.After-tried Inv-loop μ-loop → tie.At-loop Inv-loop μ-loop

@@ -1,4 +1,4 @@
--- `sampling::judge_edge` tells whether a candidate passes: 0 by its threshold, another by the test on its layer.
+-- `sampling::judge_edge` tells whether a trial passes: 0 by its threshold, another by the test on its layer.
 use mathlib.Core.Path.{_≡_, sym, ap, ap₂, _∙_}
 use mathlib.Core.Bool.{Bool}
 use Prim.Native.Nat.{ℕ}
