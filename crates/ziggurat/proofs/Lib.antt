@@ -7,5 +7,4 @@ pub mod Proposing
 pub mod Passing
 pub mod ZeroThreshold
 pub mod Filling
-pub mod Refusing
 pub mod Turning

@@ -1,5 +1,4 @@
 // The layered draw of signed coefficients.
-use crate::refusal;
 use crate::sampling;
 use crate::sampling::Proposal;
 use crate::tables;
@@ -84,7 +83,7 @@ pub fn sample_ziggurat_to_i64(
     ensures { λ r. ⌜ outcome r (now (output .exit)) ≡ layeredDraw (λ cs. cs) parameters
         (tables (now (endpoints .entry)) (now (heights .entry)) (now (curve .entry))) (now (words .entry)) place (now (output .entry)) ⌝ }
 {
-    let number = refusal::early_number(words.len(), place, output.len());
+    let number = words::early_number(words.len(), place, output.len());
     if number != 0 {
         return Answer { number, place };
     }

@@ -13,7 +13,7 @@ use Rattle.distr.specs.Encoding.{encodeWith}
 use Rattle.distr.specs.Making.{refuse}
 use Rattle.distr.specs.Layered.{layerTables, layered}
 use Rattle.ziggurat.specs.Tables.{tables}
-use Rattle.ziggurat.proofs.Refusing.{early-passed, early-refused, test-refused, test-passed}
+use Rattle.words.proofs.Refusing.{early-passed, early-refused, test-refused, test-passed}
 use borrow.Author.Needs.{needs}
 use Rattle.ziggurat.proofs.encoded.sample_ziggurat_to_u64.Statement.{statement}
 use Rattle.ziggurat.proofs.encoded.sample_ziggurat_to_u64.Tie as tie
@@ -37,7 +37,7 @@ returns : tie.Need-returns
 returns c =
     let s = c .before .before .before .before .before .before .before in
     early-refused (map (encodeWith (s .args .minus-one))) (refuse (not (good s)) 13) (rules s) (s .args .words .now) (s .args .place) (s .args .output .now)
-    _ (c .before .early-number .ensures) (c .if1 .taken)
+    (c .before .early-number .ensures) (c .if1 .taken)
 
 layer-tables-ok-requires : tie.Need-layer-tables-ok-requires
 layer-tables-ok-requires c κs = search needs
@@ -46,7 +46,7 @@ returns-2 : tie.Need-returns-2
 returns-2 c =
     let ok = sym (c .before .layer-tables-ok .ensures) ∙ not-true _ (c .if2 .taken) in
     let s = c .before .before .before .before .before .before .before .before .before in
-    test-refused (map (encodeWith (s .args .minus-one))) (good s) _ (rules s) (s .args .words .now) (s .args .place) (s .args .output .now)
+    test-refused (map (encodeWith (s .args .minus-one))) (good s) (rules s) (s .args .words .now) (s .args .place) (s .args .output .now)
     (c .before .before .before .early-number .ensures) (c .before .before .if1 .left) 13 (omega arith) ok
 
 zero-threshold-requires : tie.Need-zero-threshold-requires
@@ -58,7 +58,7 @@ fill-u64-requires c κs =
       subst T (sym (accepted (c .before .before))) tt,
       (
         c .before .zero-threshold .ensures,
-        early-passed (length (a .words .now)) (a .place) (length (a .output .now)) _
+        early-passed (length (a .words .now)) (a .place) (length (a .output .now))
             (c .before .before .before .before .before .early-number .ensures) (c .before .before .before .before .if1 .left) .0,
       ),
     )
@@ -71,7 +71,7 @@ returns-3 c =
     let told = c .before .before .before .before .before in
     let s = told .before .before .before .before .before .before .before .before .before in
     c .before .before .fill-u64 .ensures
-    ∙ test-passed (map (encodeWith (s .args .minus-one))) (good s) _ (rules s) (s .args .words .now) (s .args .place) (s .args .output .now)
+    ∙ test-passed (map (encodeWith (s .args .minus-one))) (good s) (rules s) (s .args .words .now) (s .args .place) (s .args .output .now)
     (told .before .before .before .early-number .ensures) (told .before .before .if1 .left) 13 (accepted told)
 
 pub sample-ziggurat-to-u64-spec : {M : Type 1} → statement M

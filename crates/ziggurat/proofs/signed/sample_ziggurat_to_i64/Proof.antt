@@ -12,7 +12,7 @@ use Rattle.distr.specs.Words.{Read}
 use Rattle.distr.specs.Making.{refuse}
 use Rattle.distr.specs.Layered.{layerTables, layered}
 use Rattle.ziggurat.specs.Tables.{tables}
-use Rattle.ziggurat.proofs.Refusing.{early-passed, early-refused, test-refused, test-passed}
+use Rattle.words.proofs.Refusing.{early-passed, early-refused, test-refused, test-passed}
 use borrow.Author.Needs.{needs}
 use Rattle.ziggurat.proofs.signed.sample_ziggurat_to_i64.Statement.{statement}
 use Rattle.ziggurat.proofs.signed.sample_ziggurat_to_i64.Tie as tie
@@ -36,7 +36,7 @@ returns : tie.Need-returns
 returns c =
     let s = c .before .before .before .before .before .before in
     early-refused (λ cs. cs) (refuse (not (good s)) 13) (rules s) (s .args .words .now) (s .args .place) (s .args .output .now)
-    _ (c .before .early-number .ensures) (c .if1 .taken)
+    (c .before .early-number .ensures) (c .if1 .taken)
 
 layer-tables-ok-requires : tie.Need-layer-tables-ok-requires
 layer-tables-ok-requires c κs = search needs
@@ -45,7 +45,7 @@ returns-2 : tie.Need-returns-2
 returns-2 c =
     let ok = sym (c .before .layer-tables-ok .ensures) ∙ not-true _ (c .if2 .taken) in
     let s = c .before .before .before .before .before .before .before .before in
-    test-refused (λ cs. cs) (good s) _ (rules s) (s .args .words .now) (s .args .place) (s .args .output .now)
+    test-refused (λ cs. cs) (good s) (rules s) (s .args .words .now) (s .args .place) (s .args .output .now)
     (c .before .before .before .early-number .ensures) (c .before .before .if1 .left) 13 (omega arith) ok
 
 zero-threshold-requires : tie.Need-zero-threshold-requires
@@ -57,7 +57,7 @@ fill-i64-requires c κs =
       subst T (sym (accepted (c .before .before))) tt,
       (
         c .before .zero-threshold .ensures,
-        early-passed (length (a .words .now)) (a .place) (length (a .output .now)) _
+        early-passed (length (a .words .now)) (a .place) (length (a .output .now))
             (c .before .before .before .before .before .early-number .ensures) (c .before .before .before .before .if1 .left) .0,
       ),
     )
@@ -70,7 +70,7 @@ returns-3 c =
     let told = c .before .before .before .before in
     let s = told .before .before .before .before .before .before .before .before in
     c .before .fill-i64 .ensures
-    ∙ test-passed (λ cs. cs) (good s) _ (rules s) (s .args .words .now) (s .args .place) (s .args .output .now)
+    ∙ test-passed (λ cs. cs) (good s) (rules s) (s .args .words .now) (s .args .place) (s .args .output .now)
     (told .before .before .before .early-number .ensures) (told .before .before .if1 .left) 13 (accepted told)
 
 pub sample-ziggurat-to-i64-spec : {M : Type 1} → statement M

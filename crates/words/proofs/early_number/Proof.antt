@@ -1,8 +1,8 @@
--- `refusal::early_number` tries the two tests in their order.
+-- `early_number` tries the two tests in their order.
 use borrow.Author.Tests.{lt-ltb, le-ltb}
 use Rattle.distr.specs.Numbers.{firstOf}
-use Rattle.ziggurat.proofs.refusal.early_number.Statement.{statement}
-use Rattle.ziggurat.proofs.refusal.early_number.Tie as tie
+use Rattle.words.proofs.early_number.Statement.{statement}
+use Rattle.words.proofs.early_number.Tie as tie
 
 returns : tie.Need-returns
 unfolding firstOf
