@@ -2,6 +2,7 @@
 use distr::threshold::Threshold;
 ghost use mathlib.Core.Path.{_≡_};
 ghost use mathlib.Core.List.{[], _∷_};
+ghost use Prim.Native.Nat.{_%_, _<_};
 ghost use lib.ListN.{length, drop};
 ghost use Rattle.distr.specs.Words.{word, wide, choose, coin, chance};
 ghost use Rattle.distr.specs.Numbers.{firstOf, pastEnd, tooLong};
@@ -52,6 +53,18 @@ pub fn next_u64(words: &[u32], place: usize) -> Taken
     }
 }
 
+// What a word leaves on division by k. Where k fits a word the division is one of 32 bits.
+fn remainder(word: u32, k: u64) -> u32
+    requires { ⌜ 0 < k ⌝ }
+    ensures { λ r. ⌜ r ≡ word % k ⌝ }
+{
+    if 0xffff_ffff < k {
+        word
+    } else {
+        word % (k as u32)
+    }
+}
+
 // A choice among k. A word w is skipped where its run of k, from w - w % k on, does not end at 2^32 or below: one division for each word.
 pub fn uniform_below(words: &[u32], place: usize, k: u64) -> Taken
     ensures { λ r. ⌜ r ≡ taken (length (now (words .entry))) (choose k (drop place (now (words .entry)))) ⌝ }
@@ -65,11 +78,14 @@ pub fn uniform_below(words: &[u32], place: usize, k: u64) -> Taken
     let last = 0x1_0000_0000 - k;
     let mut i = place;
     while i < words.len() {
-        let w = words[i] as u64;
-        let r = w % k;
+        let w = words[i];
+        let r = remainder(w, k);
         i += 1;
-        if w - r <= last {
-            return Taken::Got { value: r, place: i };
+        if (w - r) as u64 <= last {
+            return Taken::Got {
+                value: r as u64,
+                place: i,
+            };
         }
     }
     Taken::Short
