@@ -1,11 +1,16 @@
 -- Filling an output block by block, over how the output holds coefficients: what is read from the words left now, behind the blocks that
 -- are filled, is what is read from those left at first.
 use mathlib.Core.Path.{_≡_, refl, sym, ap, ap₂, _∙_}
+use mathlib.Core.Bool.{Bool, true, false}
 use mathlib.Core.List.{List, [], _∷_, _++_, map, append-assoc, append-nil}
 use Prim.Native.Nat.{ℕ, zero, suc, _+_, _-_, _*_, _/_, _%_, _<_, _≤_}
-use native.Mathlib.Nat.{div-add-mod'}
+use native.Mathlib.Nat.{div-add-mod', mul-one, mul-zero}
 use native.Mathlib.Omega.{arith}
+use mir.Syntax.{w64}
+use mir.Val.{boolByte, SFits}
+use borrow.Author.Tests.{ltb-true, ltb-false}
 use borrow.Rule.Slice.PartMut.{midOf, postOf, putMid, mid-len}
+use lib.Dec.{ltb}
 use lib.ListN.{length, take, drop, set, replicate, length-append, length-set, length-replicate}
 use lib.Seq.{length-take-le, take-at, take-all, set-out}
 use lib.IntN.{ℤ, pos, natAbs}
@@ -19,9 +24,30 @@ use Rattle.words.specs.Reading.{taken}
 use Rattle.words.proofs.Places.{place-of}
 use Rattle.words.proofs.Taking.{took-choice, taken-short}
 
--- nothing is put past the end of zeros
-pub cleared-past : {A : Type 0} (z : A) (n i : ℕ) (o : A) → n ≤ i → replicate n z ≡ set (replicate n z) i o
-cleared-past z n i o h = sym (set-out (replicate n z) i o (omega (arith, length-replicate n z)))
+-- a position by its test: itself inside of n places, else the first
+pub position-room : (n i : ℕ) → 0 < n → i * boolByte (ltb i n) < n
+position-room n i h = go (ltb i n) refl
+  where
+    go : (b : Bool) → ltb i n ≡ b → i * boolByte b < n
+    go true e = omega (arith, ltb-true i n e)
+    go false e = omega arith
+
+pub byte-fits : (b : Bool) → SFits w64 (pos (boolByte b))
+byte-fits true = record { sfits = omega arith }
+byte-fits false = record { sfits = omega arith }
+
+-- what is written there, o inside and z else, leaves zeros with an o at the position, or zeros alone
+pub position-put : {A : Type 0} (value : ℕ → A) (n i : ℕ) → 0 < n
+    → set (replicate n (value 0)) (i * boolByte (ltb i n)) (value (boolByte (ltb i n))) ≡ set (replicate n (value 0)) i (value 1)
+position-put value zero i h = absurd (omega arith)
+position-put value (suc n) i h = go (ltb i (suc n)) refl
+  where
+    go : (b : Bool) → ltb i (suc n) ≡ b
+        → set (replicate (suc n) (value 0)) (i * boolByte b) (value (boolByte b)) ≡ set (replicate (suc n) (value 0)) i (value 1)
+    go true e = ap (λ (j : ℕ). set (replicate (suc n) (value 0)) j (value 1)) (mul-one i)
+    go false e =
+        ap (λ (j : ℕ). set (replicate (suc n) (value 0)) j (value 0)) (mul-zero i)
+        ∙ sym (set-out (replicate (suc n) (value 0)) i (value 1) (omega (arith, ltb-false i (suc n) e, length-replicate (suc n) (value 0))))
 
 -- what stands up to the end of a part that was filled
 front : {A : Type 0} (start size : ℕ) (out ys : List A) → start ≤ length out → length ys ≡ size
@@ -148,6 +174,10 @@ module _ {A : Type 0} {write : List ℤ → List A} {z o : A} (holds : Holds wri
   -- a block that begins before the end has room
   pub turn-room : start < n → start + size ≤ length out
   turn-room h = omega (arith, some-left h .2, t .kept)
+
+  -- and is not empty
+  pub turn-some : 0 < size → start < n → 0 < length (midOf start (start + size - start) out)
+  turn-some p h = omega (arith, mid-len start (start + size) out (turn-room h))
 
   module _ (h : start < n) where
     -- one choice, and its block filled in the output's part

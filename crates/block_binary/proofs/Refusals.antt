@@ -5,7 +5,7 @@ use mathlib.Core.List.{List, [], _∷_}
 use Prim.Native.Nat.{ℕ, zero, suc, _*_, _/_, _%_, _<_, _≤_}
 use native.Mathlib.Nat.{mod-zero, div-add-mod'}
 use native.Mathlib.Omega.{arith}
-use borrow.Author.Tests.{ltb-false, eqb-true, eqb-false, not-false, ne-eqb}
+use borrow.Author.Tests.{le-ltb, ltb-false, eqb-true, eqb-false, not-false, ne-eqb}
 use lib.Dec.{ltb, eqb}
 use lib.ListN.{length, drop}
 use lib.IntN.{ℤ}
@@ -15,15 +15,37 @@ use Rattle.distr.specs.Making.{refuse}
 use Rattle.distr.specs.Numbers.{firstOf, pastEnd, tooLong}
 use Rattle.distr.specs.Draw.{Outcome, settled, judged, ruleDraw}
 use Rattle.distr.proofs.Drawing.{rule-settled}
+use Rattle.words.proofs.Refusing.{earlyNumber, early-passed}
 use Rattle.block_binary.proofs.Blocks.{wanted}
 
 -- "8 block length 0 or no multiple of the block size"
-abbrev lengthRefused : ℕ → ℕ → Bool
+abbrev pub lengthRefused : ℕ → ℕ → Bool
 lengthRefused size n = eqb n 0 || not (eqb (n % size) 0)
 
 -- the number that `refusal` gives
 abbrev pub firstNumber : ℕ → ℕ → ℕ → ℕ → ℕ
 firstNumber count place n size = firstOf (pastEnd count place ∷ tooLong n ∷ refuse (lengthRefused size n) 8 ∷ [])
+
+-- a number of the early tests comes first, and where there is none the length's number stands
+pub first-early : (count place n size : ℕ) {k : ℕ} → k ≡ earlyNumber count place n → (k ≡ 0 → ⊥) → k ≡ firstNumber count place n size
+unfolding firstOf
+first-early count place n size {k} e ne = go (ltb count place) (ltb 65536 n) refl refl
+  where
+    go : (a b : Bool) → ltb count place ≡ a → ltb 65536 n ≡ b → k ≡ firstNumber count place n size
+    go true b p q = rw p (rw p at e)
+    go false true p q = rw (p, q) (rw (p, q) at e)
+    go false false p q = absurd (ne (rw (p, q) at e))
+
+pub first-length : (count place n size : ℕ) {k r : ℕ} → k ≡ earlyNumber count place n → k ≡ 0 → r ≡ refuse (lengthRefused size n) 8
+    → r ≡ firstNumber count place n size
+unfolding firstOf
+first-length count place n size e z own =
+    let pass = early-passed count place n e z in
+    own ∙ rw (le-ltb count place (pass .0), le-ltb 65536 n (pass .1)) (go (lengthRefused size n))
+  where
+    go : (b : Bool) → refuse b 8 ≡ firstOf (refuse b 8 ∷ [])
+    go true = refl
+    go false = refl
 
 -- what is known where nothing refuses
 pub record Accepted (count place n size : ℕ) : Type 0 where

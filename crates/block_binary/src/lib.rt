@@ -21,11 +21,9 @@ ghost use Rattle.distr.specs.Draw.{outcome, ruleDraw};
 fn refusal(count: usize, place: usize, n: usize, block_size: usize) -> u32
     ensures { λ r. ⌜ r ≡ firstOf (pastEnd count place ∷ tooLong n ∷ refuse (eqb n 0 || not (eqb (n % «block_size») 0)) 8 ∷ []) ⌝ }
 {
-    if count < place {
-        return 22;
-    }
-    if 65536 < n {
-        return 6;
+    let early = words::early_number(count, place, n);
+    if early != 0 {
+        return early;
     }
     if n == 0 {
         return 8;
@@ -59,9 +57,8 @@ pub fn sample_block_binary_values_to_i64(
     words: &[u32],
     place: usize,
 ) -> Answer
-    ensures { λ r. ⌜ (let n = length (now (output .entry)) in
-        outcome r (now (output .exit))
-        ≡ ruleDraw (λ cs. cs) (refuse (eqb n 0 || not (eqb (n % «block_size») 0)) 8) (blockBinary «block_size» occupancy n)
+    ensures { λ r. ⌜ (let n = length (now (output .entry)) in outcome r (now (output .exit)) ≡ ruleDraw (λ cs. cs)
+        (refuse (eqb n 0 || not (eqb (n % «block_size») 0)) 8) (blockBinary «block_size» occupancy n)
         (now (words .entry)) place (now (output .entry))) ⌝ }
 {
     let number = refusal(words.len(), place, output.len(), block_size);
@@ -80,9 +77,8 @@ pub fn sample_block_binary_values_to_u64(
     words: &[u32],
     place: usize,
 ) -> Answer
-    ensures { λ r. ⌜ (let n = length (now (output .entry)) in
-        outcome r (now (output .exit))
-        ≡ ruleDraw (map natAbs) (refuse (eqb n 0 || not (eqb (n % «block_size») 0)) 8) (blockBinary «block_size» occupancy n)
+    ensures { λ r. ⌜ (let n = length (now (output .entry)) in outcome r (now (output .exit)) ≡ ruleDraw (map natAbs)
+        (refuse (eqb n 0 || not (eqb (n % «block_size») 0)) 8) (blockBinary «block_size» occupancy n)
         (now (words .entry)) place (now (output .entry))) ⌝ }
 {
     let number = refusal(words.len(), place, output.len(), block_size);

@@ -11,14 +11,15 @@ ghost use Rattle.distr.specs.Blocks.{blocksOf};
 ghost use Rattle.distr.specs.Draw.{outcome, settled};
 
 // Fills one block, which is lent as a part of the output: zeros, and a one at the position, unless that is past the block.
+// Such a position writes a zero at the first place, so that nothing branches on what was drawn.
 fn fill_block_u64(block: &mut [u64], position: usize)
+    requires { ⌜ 0 < length (now block) ⌝ }
     ensures { λ r. ⌜ now (block .exit) ≡ set (replicate (length (now (block .entry))) 0) position 1 ⌝ }
 {
     let size = block.len();
     fill::clear_u64(block);
-    if position < size {
-        block[position] = 1;
-    }
+    let inside = (position < size) as usize;
+    block[position * inside] = inside as u64;
 }
 
 // Fills the output block by block, each by one choice among `choices`. Where a word is missing the output is cleared.

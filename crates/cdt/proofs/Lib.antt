@@ -1,4 +1,4 @@
-pub mod Halving
+pub mod Climbing
 pub mod Judging
 pub mod Signing
 pub mod Settling

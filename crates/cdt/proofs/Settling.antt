@@ -8,22 +8,20 @@ use lib.ListN.{length, drop, replicate, length-drop}
 use lib.IntN.{ℤ, pos}
 use borrow.Author.Tests.{le-leb, lt-leb}
 use Rattle.distr.specs.Words.{got, short, mapRead, many, wide}
-use Rattle.distr.specs.Rule.{wideWords}
-use Rattle.distr.specs.Draw.{ruleDraw}
+use Rattle.distr.specs.Rule.{readBy, wideWords}
+use Rattle.distr.specs.Draw.{settled}
 use Rattle.distr.proofs.Reading.{wides, many-wide}
 use Rattle.distr.proofs.Writing.{map-map, map-replicate}
-use Rattle.distr.proofs.Drawing.{rule-got, rule-short}
+use Rattle.cdt.specs.Taking.{Takes}
 
 -- `enc` is what the output holds for a coefficient, `write` for all of them
 module _ {A : Type 0} (write : List ℤ → List A) (enc : ℤ → A) (each : (cs : List ℤ) → write cs ≡ map enc cs)
-    (number : ℕ) (value : ℕ → ℤ) (words : List ℕ) (place : ℕ) (out : List A) where
+    (value : ℕ → ℤ) (words : List ℕ) (place n : ℕ) where
   -- the words are there
-  pub wide-got : place ≤ length words → length out ≤ 65536 → number ≡ 0 → place + 2 * length out ≤ length words → (now : List A)
-      → mapRead (map (λ w. enc (value w))) (many wide (length out) (drop place words)) ≡ got now (drop (place + 2 * length out) words)
-      → record { number = 0; place = place + 2 * length out; output = now } ≡ ruleDraw write number (wideWords (length out) value) words place out
-  unfolding mapRead
-  wide-got h k l m now e =
-      let n = length out in
+  pub wide-got : place + 2 * n ≤ length words → (now : List A) → Takes (λ w. enc (value w)) words place n now
+      → record { number = 0; place = place + 2 * n; output = now } ≡ settled write (length words) place n (readBy (wideWords n value) (drop place words))
+  unfolding mapRead settled
+  wide-got m now e =
       let ws = wides n (drop place words) in
       let rest = drop (2 * n) (drop place words) in
       let enough : 2 * n ≤ length (drop place words) = rw (length-drop place words) (omega arith) in
@@ -33,21 +31,19 @@ module _ {A : Type 0} (write : List ℤ → List A) (enc : ℤ → A) (each : (c
       let all : map (λ w. enc (value w)) ws ≡ now = cc in
       let after : length words - length rest ≡ place + 2 * n = simp length-drop (omega arith) in
       sym
-      (rule-got write number (wideWords n value) words place out h k l (map value ws) rest (ap (mapRead (map value)) read)
+      (ap (settled write (length words) place n) (ap (mapRead (map value)) read)
       ∙ ap₂ (λ (p : ℕ) (o : List A). record { number = 0; place = p; output = o }) after (each (map value ws) ∙ map-map enc value ws ∙ all))
 
   -- too few words
-  pub wide-short : place ≤ length words → length out ≤ 65536 → number ≡ 0 → length words < place + 2 * length out → (now : List A)
-      → now ≡ replicate (length out) (enc (pos 0))
-      → record { number = 23; place = place; output = now } ≡ ruleDraw write number (wideWords (length out) value) words place out
-  unfolding mapRead
-  wide-short h k l m now e =
-      let n = length out in
+  pub wide-short : place ≤ length words → length words < place + 2 * n → (now : List A) → now ≡ replicate n (enc (pos 0))
+      → record { number = 23; place = place; output = now } ≡ settled write (length words) place n (readBy (wideWords n value) (drop place words))
+  unfolding mapRead settled
+  wide-short h m now e =
       let few : length (drop place words) < 2 * n = rw (length-drop place words) (omega arith) in
       let read : many wide n (drop place words) ≡ short =
       many-wide n (drop place words)
       ∙ ap (λ (b : Bool). cond b (got (wides n (drop place words)) (drop (2 * n) (drop place words))) short)
       (lt-leb (2 * n) (length (drop place words)) few) in
       sym
-      (rule-short write number (wideWords n value) words place out h k l (ap (mapRead (map value)) read)
+      (ap (settled write (length words) place n) (ap (mapRead (map value)) read)
       ∙ ap (λ (o : List A). record { number = 23; place = place; output = o }) (each (replicate n (pos 0)) ∙ map-replicate enc n (pos 0) ∙ sym e))

@@ -1,2 +1,4 @@
--- What the search of a cumulative table keeps.
-pub mod Narrowing
+-- What a draw by a cumulative table goes by: its number, its words and its guide.
+pub mod Numbered
+pub mod Taking
+pub mod Guided

@@ -1,10 +1,10 @@
-// The search of a cumulative table, with no branch that goes by a bound.
+// The search of a cumulative table: up from the place that a guide gives. Most words find their place in the guide at once.
 ghost use mathlib.Core.Path.{_≡_};
-ghost use Prim.Native.Nat.{_+_, _*_, _<_, _^_};
+ghost use Prim.Native.Nat.{_+_, _*_, _<_, _≤_, _^_};
 ghost use lib.Dec.{T};
-ghost use lib.ListN.{length};
+ghost use lib.ListN.{replicate};
 ghost use Rattle.distr.specs.Gaussian.{cumulativeTable, magnitude, signed, cumulativeValue};
-ghost use Rattle.cdt.specs.Narrowing.{Near, moved};
+ghost use Rattle.cdt.specs.Guided.{Guided};
 
 // A coefficient that no output has encoded yet.
 pub struct Sampled {
@@ -12,52 +12,60 @@ pub struct Sampled {
     pub magnitude: u64,
 }
 
-// One step up, where it does not pass the top and the bound there is at most the word. The bound's test is a number that scales the step.
-fn step_up(bounds: &[u64], top: usize, word: u64, base: usize, step: usize) -> usize
-    requires { ⌜ (top < length (now bounds)) × (base + step < 2 ^ 64) ⌝ }
-    ensures { λ r. ⌜ r ≡ moved (now (bounds .entry)) top word base step ⌝ }
+// The largest index up to the top whose bound is at most the word, from a place on that is not past it.
+fn index_from(bounds: &[u64], top: usize, word: u64, start: usize) -> usize
+    requires { ⌜ T (cumulativeTable top (now bounds)) × (start ≤ magnitude (now bounds) top word) ⌝ }
+    ensures { λ r. ⌜ r ≡ magnitude (now (bounds .entry)) top word ⌝ }
 {
-    let middle = base + step;
-    if top < middle {
-        return base;
-    }
-    base + (bounds[middle] <= word) as usize * step
-}
-
-// Halves the span of places, from the base on, that the magnitude can have, until it is small enough.
-fn narrow(bounds: &[u64], top: usize, word: u64, base: usize, span: usize, until: usize) -> usize
-    requires { ⌜ T (cumulativeTable top (now bounds)) × (span < 2 ^ 62) × (0 < until) × Near (now bounds) top word base span ⌝ }
-    ensures { λ r. ⌜ Near (now (bounds .entry)) top word r until ⌝ }
-{
-    let mut at = base;
-    let mut left = span;
-    while until < left {
-        let half = left / 2;
-        at = step_up(bounds, top, word, at, half);
-        left = left - half;
+    let mut at = start;
+    while at < top {
+        if word < bounds[at + 1] {
+            return at;
+        }
+        at += 1;
     }
     at
 }
 
-// The largest index up to the top whose bound is at most the word. Up to a top of 255 the first call takes no step, and the
-// second takes 128, 64, .., 1; a constant span lets it be compiled to eight steps in a row.
-fn cdt_index(bounds: &[u64], top: usize, word: u64) -> usize
-    requires { ⌜ T (cumulativeTable top (now bounds)) ⌝ }
-    ensures { λ r. ⌜ r ≡ magnitude (now (bounds .entry)) top word ⌝ }
+// Room for a guide.
+fn no_guide() -> [usize; 256]
+    ensures { λ r. ⌜ r ≡ replicate 256 0 ⌝ }
 {
-    let base = narrow(bounds, top, word, 0, top + 1, 256);
-    narrow(bounds, top, word, base, 256, 1)
+    [0; 256]
+}
+
+// The guide of a table: entry k is the index of the word k * 2^56, and is found from the entry before it. It is made once for a draw.
+pub(crate) fn make_guide(bounds: &[u64], top: usize) -> [usize; 256]
+    requires { ⌜ T (cumulativeTable top (now bounds)) ⌝ }
+    ensures { λ r. ⌜ Guided (now (bounds .entry)) top r ⌝ }
+{
+    let mut guide = no_guide();
+    let mut at: usize = 0;
+    let mut k: usize = 0;
+    while k < 256 {
+        at = index_from(bounds, top, k as u64 * 0x100_0000_0000_0000, at);
+        guide[k] = at;
+        k += 1;
+    }
+    guide
 }
 
 // The coefficient of the 64-bit word of two halves, low half first: its magnitude by the table, and positive where the word is odd.
-pub(crate) fn sample_magnitude(bounds: &[u64], top: usize, low: u32, high: u32) -> Sampled
-    requires { ⌜ T (cumulativeTable top (now bounds)) ⌝ }
+pub(crate) fn sample_magnitude(
+    bounds: &[u64],
+    top: usize,
+    guide: &[usize; 256],
+    low: u32,
+    high: u32,
+) -> Sampled
+    requires { ⌜ T (cumulativeTable top (now bounds)) × Guided (now bounds) top (now guide) ⌝ }
     ensures { λ r. ⌜ (r .magnitude < 2 ^ 63)
         × (signed (r .positive) (r .magnitude) ≡ cumulativeValue top (now (bounds .entry)) (low + high * 2 ^ 32)) ⌝ }
 {
     let word = low as u64 + high as u64 * 0x1_0000_0000;
+    let start = guide[(word / 0x100_0000_0000_0000) as usize];
     Sampled {
         positive: word % 2 == 1,
-        magnitude: cdt_index(bounds, top, word) as u64,
+        magnitude: index_from(bounds, top, word, start) as u64,
     }
 }

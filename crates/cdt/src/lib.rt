@@ -8,6 +8,7 @@ ghost use Rattle.distr.specs.Gaussian.{rising, cumulative, cumulativeTable};
 ghost use Rattle.distr.specs.Encoding.{encodeWith};
 ghost use Rattle.distr.specs.Making.{refuse};
 ghost use Rattle.distr.specs.Draw.{outcome, ruleDraw};
+ghost use Rattle.cdt.specs.Numbered.{Numbered};
 
 mod index;
 mod store;
@@ -47,7 +48,25 @@ pub fn cdt_table_ok(maximum_magnitude: u64, bounds: &[u64]) -> bool
     )
 }
 
-// Draws signed coefficients. The words are counted once, so that the loop tests nothing.
+// What refuses a draw of n coefficients from `place` in `count` words: 22 past the end of the words, 6 too long, 12 no cumulative table,
+// 23 too few words. They are counted here, so that the loops test nothing.
+fn refusal(count: usize, place: usize, n: usize, maximum_magnitude: u64, bounds: &[u64]) -> u32
+    ensures { λ r. ⌜ Numbered count place n (cumulativeTable «maximum_magnitude» (now (bounds .entry))) r ⌝ }
+{
+    let early = words::early_number(count, place, n);
+    if early != 0 {
+        return early;
+    }
+    if !cdt_table_ok(maximum_magnitude, bounds) {
+        return 12;
+    }
+    if (count - place) / 2 < n {
+        return 23;
+    }
+    0
+}
+
+// Draws signed coefficients.
 pub fn sample_cdt_to_i64(
     output: &mut [i64],
     maximum_magnitude: u64,
@@ -60,26 +79,18 @@ pub fn sample_cdt_to_i64(
         (cumulative «maximum_magnitude» (now (bounds .entry)) (length (now (output .entry)))) (now (words .entry)) place (now (output .entry)) ⌝ }
 {
     let n = output.len();
-    if words.len() < place {
-        return Answer { number: 22, place };
+    let number = refusal(words.len(), place, n, maximum_magnitude, bounds);
+    if number == 0 {
+        store::fill_i64(output, maximum_magnitude as usize, bounds, words, place);
+        return Answer {
+            number,
+            place: place + 2 * n,
+        };
     }
-    if 65536 < n {
-        return Answer { number: 6, place };
-    }
-    if !cdt_table_ok(maximum_magnitude, bounds) {
-        return Answer { number: 12, place };
-    }
-    if (words.len() - place) / 2 < n {
+    if number == 23 {
         fill::clear_i64(output);
-        return Answer { number: 23, place };
     }
-    let top = maximum_magnitude as usize;
-    store::fill_i64(output, top, bounds, words, place);
-    let next = place + 2 * n;
-    Answer {
-        number: 0,
-        place: next,
-    }
+    Answer { number, place }
 }
 
 // Draws the same coefficients as residues of a modulus, by its encoding of -1.
@@ -96,24 +107,23 @@ pub fn sample_cdt_to_u64(
         (cumulative «maximum_magnitude» (now (bounds .entry)) (length (now (output .entry)))) (now (words .entry)) place (now (output .entry)) ⌝ }
 {
     let n = output.len();
-    if words.len() < place {
-        return Answer { number: 22, place };
+    let number = refusal(words.len(), place, n, maximum_magnitude, bounds);
+    if number == 0 {
+        store::fill_u64(
+            output,
+            minus_one,
+            maximum_magnitude as usize,
+            bounds,
+            words,
+            place,
+        );
+        return Answer {
+            number,
+            place: place + 2 * n,
+        };
     }
-    if 65536 < n {
-        return Answer { number: 6, place };
-    }
-    if !cdt_table_ok(maximum_magnitude, bounds) {
-        return Answer { number: 12, place };
-    }
-    if (words.len() - place) / 2 < n {
+    if number == 23 {
         fill::clear_u64(output);
-        return Answer { number: 23, place };
     }
-    let top = maximum_magnitude as usize;
-    store::fill_u64(output, minus_one, top, bounds, words, place);
-    let next = place + 2 * n;
-    Answer {
-        number: 0,
-        place: next,
-    }
+    Answer { number, place }
 }

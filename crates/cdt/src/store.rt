@@ -1,14 +1,12 @@
 // What an output type adds: the encoding of a coefficient, and the loops that store.
 use crate::index;
 ghost use mathlib.Core.Path.{_≡_};
-ghost use mathlib.Core.List.{map};
 ghost use Prim.Native.Nat.{_+_, _*_, _<_, _≤_, _^_};
 ghost use lib.Dec.{T};
-ghost use lib.ListN.{length, drop, replicate};
-ghost use lib.IntN.{pos};
-ghost use Rattle.distr.specs.Words.{many, wide, mapRead, got};
+ghost use lib.ListN.{length};
 ghost use Rattle.distr.specs.Gaussian.{cumulativeTable, cumulativeValue, signed};
 ghost use Rattle.distr.specs.Encoding.{encodeWith};
+ghost use Rattle.cdt.specs.Taking.{Takes};
 
 // A magnitude with its sign.
 fn encode_signed(positive: bool, magnitude: u64) -> i64
@@ -39,15 +37,15 @@ fn encode_modular(positive: bool, magnitude: u64, modulus_minus_one: u64) -> u64
 // Each element by a 64-bit word. The caller has counted the words.
 pub(crate) fn fill_i64(output: &mut [i64], top: usize, bounds: &[u64], words: &[u32], place: usize)
     requires { ⌜ T (cumulativeTable top (now bounds)) × (place + 2 * length (now output) ≤ length (now words)) ⌝ }
-    ensures { λ _. ⌜ mapRead (map (cumulativeValue top (now (bounds .entry))))
-        (many wide (length (now (output .entry))) (drop place (now (words .entry)))) ≡
-        got (now (output .exit)) (drop (place + 2 * length (now (output .entry))) (now (words .entry))) ⌝ }
+    ensures { λ _. ⌜ Takes (cumulativeValue top (now (bounds .entry)))
+        (now (words .entry)) place (length (now (output .entry))) (now (output .exit)) ⌝ }
 {
     let n = output.len();
+    let guide = index::make_guide(bounds, top);
     let mut i: usize = 0;
     let mut at = place;
     while i < n {
-        let sampled = index::sample_magnitude(bounds, top, words[at], words[at + 1]);
+        let sampled = index::sample_magnitude(bounds, top, &guide, words[at], words[at + 1]);
         output[i] = encode_signed(sampled.positive, sampled.magnitude);
         i += 1;
         at += 2;
@@ -64,15 +62,15 @@ pub(crate) fn fill_u64(
     place: usize,
 )
     requires { ⌜ T (cumulativeTable top (now bounds)) × (place + 2 * length (now output) ≤ length (now words)) ⌝ }
-    ensures { λ _. ⌜ mapRead (map (λ w. encodeWith «minus_one» (cumulativeValue top (now (bounds .entry)) w)))
-        (many wide (length (now (output .entry))) (drop place (now (words .entry)))) ≡
-        got (now (output .exit)) (drop (place + 2 * length (now (output .entry))) (now (words .entry))) ⌝ }
+    ensures { λ _. ⌜ Takes (λ w. encodeWith «minus_one» (cumulativeValue top (now (bounds .entry)) w))
+        (now (words .entry)) place (length (now (output .entry))) (now (output .exit)) ⌝ }
 {
     let n = output.len();
+    let guide = index::make_guide(bounds, top);
     let mut i: usize = 0;
     let mut at = place;
     while i < n {
-        let sampled = index::sample_magnitude(bounds, top, words[at], words[at + 1]);
+        let sampled = index::sample_magnitude(bounds, top, &guide, words[at], words[at + 1]);
         output[i] = encode_modular(sampled.positive, sampled.magnitude, minus_one);
         i += 1;
         at += 2;

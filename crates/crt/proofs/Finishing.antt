@@ -11,9 +11,10 @@ use Rattle.distr.specs.Words.{Read, got, short}
 use Rattle.distr.specs.Encoding.{encodeWith, rows}
 use Rattle.distr.specs.Numbers.{firstOf, moduliNumbers}
 use Rattle.distr.specs.Draw.{Outcome, outcome, settled}
+use Rattle.draw_laws.proofs.Bounds.{Within}
 use Rattle.crt.specs.Rows.{lastRow, spread, finished}
 use Rattle.crt.proofs.Moduli.{moduli-above}
-use Rattle.crt.proofs.Residues.{Within, within-more, spread-encode, rows-zero}
+use Rattle.crt.proofs.Residues.{within-more, spread-encode, rows-zero}
 
 module _ (out : List ℕ) (count : ℕ) (moduli : List ℕ) (answer : Answer) {after : List ℕ} where
   -- number 0

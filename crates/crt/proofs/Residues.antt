@@ -6,15 +6,12 @@ use native.Mathlib.Nat.{zero-lt-suc, mul-zero, mul-suc, add-comm}
 use native.Mathlib.Omega.{arith}
 use borrow.Author.Tests.{eq-eqb}
 use lib.ListN.{length, getD, replicate, replicate-append-replicate}
-use lib.IntN.{ℤ, pos, natAbs}
+use lib.IntN.{ℤ, pos}
 use Rattle.distr.specs.Encoding.{encode, encodeWith, rows}
 use Rattle.distr.proofs.Writing.{map-replicate}
+use Rattle.draw_laws.proofs.Bounds.{Within}
 use Rattle.crt.specs.Rows.{fromNative, nativeRows, lastRow, spread}
 use Rattle.crt.proofs.Native.{from-native-encode}
-
--- no magnitude is above `most`
-abbrev pub Within : ℕ → List ℤ → Type 0
-Within most cs = (i : ℕ) → i < length cs → natAbs (getD cs i (pos 0)) ≤ most
 
 pub within-more : {few most : ℕ} (cs : List ℤ) → few ≤ most → Within few cs → Within most cs
 within-more cs h w i k = omega (arith, w i k)

@@ -13,6 +13,8 @@ const WORDS: usize = 1 << 21;
 const MOST_WORDS: usize = 8;
 /// Coefficients drawn in one round, at least.
 const ROUND: usize = 65_536;
+/// Calls for no coefficients in one round.
+const EMPTY_CALLS: usize = 64;
 const MODULUS: u64 = 12_289;
 const MODULI: [u64; 3] = [12_289, 4_294_967_311, 1 << 63];
 
@@ -95,6 +97,20 @@ impl Bench {
         (begin.elapsed().as_nanos() as f64 / (calls * n) as f64, place)
     }
 
+    /// Nanoseconds of one call of ours for no coefficients: making the sampler, every test and the check of the tables.
+    fn empty_call(&mut self, prepared: &Prepared) -> f64 {
+        let ours = OtherSide.make(&prepared.distr).expect("made by both");
+        let mut least = f64::INFINITY;
+        for _ in 0..self.rounds {
+            let begin = Instant::now();
+            for _ in 0..EMPTY_CALLS {
+                self.call(&OtherSide, &ours, &Call::Signed { n: 0 }, &prepared.tables, 0);
+            }
+            least = least.min(begin.elapsed().as_nanos() as f64 / EMPTY_CALLS as f64);
+        }
+        least
+    }
+
     /// The least of the rounds of either side.
     fn measure(&mut self, prepared: &Prepared, call: &Call) -> [f64; 2] {
         let ours = OtherSide.make(&prepared.distr).expect("made by both");
@@ -137,5 +153,9 @@ fn main() {
             let call = Call::Crt { length: count * MODULI.len(), count, moduli: MODULI.to_vec() };
             row("CRT of 3", &Prepared::new(Distr { kind, ..distr }), call);
         }
+    }
+    println!("\n| draw of no coefficients | other ns |\n|---|---|");
+    for (name, distr) in distributions(0).into_iter().filter(|(_, distr)| distr.kind == Kind::Gaussian) {
+        println!("| {name} | {:.0} |", bench.empty_call(&Prepared::new(distr)));
     }
 }

@@ -1,90 +1,66 @@
 -- `sample_cdt_to_u64` answers as 01's rule does: each return is one of the answers of a cumulative draw.
-use mathlib.Core.List.{map}
 use mathlib.Core.Path.{refl}
+use mathlib.Core.List.{map}
 use native.Mathlib.Omega.{arith}
 use borrow.Author.Needs.{needs}
 use Rattle.distr.specs.Encoding.{encodeWith}
-use Rattle.cdt.proofs.Answering.{passes, answer-22, answer-6, answer-12, answer-23, answer-0}
+use Rattle.cdt.proofs.Answering.{ready, answer-refused, answer-short, answer-drawn}
 use Rattle.cdt.proofs.sample_cdt_to_u64.Statement.{statement}
 use Rattle.cdt.proofs.sample_cdt_to_u64.Tie as tie
 
-returns : tie.Need-returns
-returns c =
-    let a = c .before .before .before .before .args in
-    answer-22 (map (encodeWith (a .minus-one))) (encodeWith (a .minus-one)) (λ cs. refl)
-    (a .maximum-magnitude) (a .bounds .now) (a .words .now) (a .place) (a .output .now)
-    (c .if1 .taken)
+refusal-requires : tie.Need-refusal-requires
+refusal-requires c κs = search needs
 
-returns-2 : tie.Need-returns-2
-returns-2 c =
-    let a = c .before .before .before .before .before .args in
-    answer-6 (map (encodeWith (a .minus-one))) (encodeWith (a .minus-one)) (λ cs. refl)
-    (a .maximum-magnitude) (a .bounds .now) (a .words .now) (a .place) (a .output .now)
-    (c .before .if1 .left) (c .if2 .taken)
+fill-u64-requires : tie.Need-fill-u64-requires
+fill-u64-requires c κs = ready (c .before .before .refusal .ensures) (c .before .if1 .taken)
 
-cdt-table-ok-requires : tie.Need-cdt-table-ok-requires
-cdt-table-ok-requires c κs = search needs
+mul-t14 : tie.Need-mul-t14
+mul-t14 c = search needs
 
-returns-3 : tie.Need-returns-3
-returns-3 c =
-    let a = c .before .before .before .before .before .before .before .args in
-    answer-12 (map (encodeWith (a .minus-one))) (encodeWith (a .minus-one)) (λ cs. refl)
-    (a .maximum-magnitude) (a .bounds .now) (a .words .now) (a .place) (a .output .now)
-    _ (c .before .before .before .if1 .left) (c .before .before .if2 .left) (c .before .cdt-table-ok .ensures) (c .if3 .taken)
-
-sub-if4 : tie.Need-sub-if4
-sub-if4 c = search needs
-
-clear-u64-requires : tie.Need-clear-u64-requires
-clear-u64-requires c κs = search needs
+add-t15 : tie.Need-add-t15
+add-t15 c = omega (arith, ready (c .before .before .before .before .before .refusal .ensures) (c .before .before .before .before .if1 .taken) .1)
 
 same-length : tie.Need-same-length
 same-length c = search needs
 
-returns-4 : tie.Need-returns-4
-returns-4 c =
-    let passed = c .before .before .before .before .before in
-    let a = passed .before .before .before .before .before .before .before .args in
-    answer-23 (map (encodeWith (a .minus-one))) (encodeWith (a .minus-one)) (λ cs. refl)
+returns : tie.Need-returns
+returns c =
+    let a = c .before .before .before .before .before .before .before .before .before .args in
+    answer-drawn (map (encodeWith (a .minus-one))) (encodeWith (a .minus-one)) (λ cs. refl)
     (a .maximum-magnitude) (a .bounds .now) (a .words .now) (a .place) (a .output .now)
-    _ _ (passed .before .before .before .if1 .left) (passed .before .before .if2 .left) (passed .before .cdt-table-ok .ensures) (passed .if3 .left)
-    (omega arith) (c .before .before .clear-u64 .ensures)
+    (c .before .before .before .before .before .refusal .ensures) (c .before .before .before .before .if1 .taken) (c .before .before .fill-u64 .ensures)
 
-fill-u64-requires : tie.Need-fill-u64-requires
-fill-u64-requires c κs = (passes _ _ (c .before .before .before .cdt-table-ok .ensures) (c .before .before .if3 .left), omega arith)
-
-mul-next : tie.Need-mul-next
-mul-next c = search needs
-
-add-next : tie.Need-add-next
-add-next c = search needs
+clear-u64-requires : tie.Need-clear-u64-requires
+clear-u64-requires c κs = search needs
 
 same-length-2 : tie.Need-same-length-2
 same-length-2 c = search needs
 
-returns-5 : tie.Need-returns-5
-returns-5 c =
-    let passed = c .before .before .before .before .before in
-    let a = passed .before .before .before .before .before .before .before .args in
-    answer-0 (map (encodeWith (a .minus-one))) (encodeWith (a .minus-one)) (λ cs. refl)
+returns-2 : tie.Need-returns-2
+returns-2 c =
+    let a = c .before .before .before .before .before .before .before .before .before .before .args in
+    answer-short (map (encodeWith (a .minus-one))) (encodeWith (a .minus-one)) (λ cs. refl)
     (a .maximum-magnitude) (a .bounds .now) (a .words .now) (a .place) (a .output .now)
-    _ _ (passed .before .before .before .if1 .left) (passed .before .before .if2 .left) (passed .before .cdt-table-ok .ensures) (passed .if3 .left)
-    (omega arith) (c .before .before .fill-u64 .ensures)
+    (c .before .before .before .before .before .before .refusal .ensures) (c .before .before .before .before .if2 .taken) (c .before .before .clear-u64 .ensures)
+
+returns-3 : tie.Need-returns-3
+returns-3 c =
+    let a = c .before .before .before .before .before .before .args in
+    answer-refused (map (encodeWith (a .minus-one))) (encodeWith (a .minus-one)) (λ cs. refl)
+    (a .maximum-magnitude) (a .bounds .now) (a .words .now) (a .place) (a .output .now)
+    (c .before .before .refusal .ensures) (c .before .if1 .left) (c .if2 .left)
 
 pub sample-cdt-to-u64-spec : {M : Type 1} → statement M
 sample-cdt-to-u64-spec =
     tie.close
     (tie.spec
-    returns
-    returns-2
-    cdt-table-ok-requires
-    returns-3
-    sub-if4
-    clear-u64-requires
-    same-length
-    returns-4
+    refusal-requires
     fill-u64-requires
-    mul-next
-    add-next
+    mul-t14
+    add-t15
+    same-length
+    returns
+    clear-u64-requires
     same-length-2
-    returns-5)
+    returns-2
+    returns-3)

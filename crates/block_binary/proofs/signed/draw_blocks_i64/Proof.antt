@@ -4,7 +4,7 @@ use mathlib.Core.Path.{sym, _∙_}
 use Prim.Native.Nat.{_-_}
 use native.Mathlib.Omega.{arith}
 use borrow.Author.Needs.{needs}
-use Rattle.block_binary.proofs.Blocks.{Turn, signed, turn-start, turn-room, turn-more, turn-short, turn-end}
+use Rattle.block_binary.proofs.Blocks.{Turn, signed, turn-start, turn-room, turn-some, turn-more, turn-short, turn-end}
 use Rattle.block_binary.proofs.signed.draw_blocks_i64.Statement.{statement}
 use Rattle.block_binary.proofs.signed.draw_blocks_i64.Tie as tie
 
@@ -42,7 +42,9 @@ part-fill-block-i64-end : tie.Need-part-fill-block-i64-end Inv-loop μ-loop
 part-fill-block-i64-end c = turn-room signed (c .before .before .before .before .before .loop .inv) (c .before .before .before .before .loop-test .taken)
 
 fill-block-i64-requires : tie.Need-fill-block-i64-requires Inv-loop μ-loop
-fill-block-i64-requires c κs = search needs
+fill-block-i64-requires c κs =
+    turn-some signed (c .before .before .before .before .before .before .loop .inv) (c .before .before .before .before .before .before .before .before .pre .0)
+    (c .before .before .before .before .before .loop-test .taken)
 
 loop-less : tie.Need-loop-less Inv-loop μ-loop
 loop-less c = omega (arith, c .before .before .before .before .before .before .before .before .before .before .pre .0)

@@ -1,32 +1,45 @@
 -- `signed::fill_block_i64` writes zeros, and a one at the position where the block has it.
 use mathlib.Core.Path.{ap, _∙_}
+use Prim.Native.Nat.{_*_}
+use native.Mathlib.Omega.{arith}
+use lib.Dec.{ltb}
+use lib.ListN.{length, set}
+use mir.Syntax.{w64}
+use mir.Val.{boolByte, toZ}
 use borrow.Author.Needs.{needs}
-use lib.ListN.{set}
-use lib.IntN.{pos}
-use Rattle.block_binary.proofs.Blocks.{cleared-past}
+use Rattle.block_binary.proofs.Blocks.{byte-fits, position-room, position-put}
 use Rattle.block_binary.proofs.signed.fill_block_i64.Statement.{statement}
 use Rattle.block_binary.proofs.signed.fill_block_i64.Tie as tie
 
 clear-i64-requires : tie.Need-clear-i64-requires
 clear-i64-requires c κs = search needs
 
-mul-block : tie.Need-mul-block
-mul-block c = search needs
+cast-inside : tie.Need-cast-inside
+cast-inside c = search needs
 
-slice-set-of-block : tie.Need-slice-set-of-block
-slice-set-of-block c = search needs
+cast-block : tie.Need-cast-block
+cast-block c = let a = c .before .before .before .args in byte-fits (ltb (a .position) (length (a .block .now)))
+
+mul-t10 : tie.Need-mul-t10
+mul-t10 c = let s = c .before .before .before in omega (arith, position-room (length (s .args .block .now)) (s .args .position) (s .pre))
+
+mul-t11 : tie.Need-mul-t11
+mul-t11 c = let s = c .before .before .before in omega (arith, position-room (length (s .args .block .now)) (s .args .position) (s .pre))
+
+slice-set-from-block : tie.Need-slice-set-from-block
+slice-set-from-block c = let s = c .before .before .before in omega (arith, position-room (length (s .args .block .now)) (s .args .position) (s .pre))
 
 same-length : tie.Need-same-length
 same-length c = search needs
 
 returns : tie.Need-returns
-returns c = ap (λ l. set l (c .before .before .before .before .args .position) (pos 1)) (c .before .before .clear-i64 .ensures)
-
-same-length-2 : tie.Need-same-length-2
-same-length-2 c = search needs
-
-returns-2 : tie.Need-returns-2
-returns-2 c = c .before .before .clear-i64 .ensures ∙ cleared-past (pos 0) _ _ (pos 1) (c .if1 .left)
+returns c =
+    let s = c .before .before .before in
+    let n = length (s .args .block .now) in
+    let inside = boolByte (ltb (s .args .position) n) in
+    ap (λ l. set l (s .args .position * inside) (toZ w64 inside)) (c .before .clear-i64 .ensures)
+    ∙ position-put (toZ w64) n (s .args .position) (s .pre)
 
 pub fill-block-i64-spec : {M : Type 1} → statement M
-fill-block-i64-spec = tie.close (tie.spec clear-i64-requires mul-block slice-set-of-block same-length returns same-length-2 returns-2)
+fill-block-i64-spec =
+    tie.close (tie.spec clear-i64-requires cast-inside cast-block mul-t10 mul-t11 slice-set-from-block same-length returns)

@@ -6,7 +6,7 @@ use native.Mathlib.Omega.{arith}
 use borrow.Author.Needs.{needs}
 use mathlib.Core.List.{map}
 use lib.IntN.{natAbs}
-use Rattle.block_binary.proofs.Blocks.{Turn, unsigned, turn-start, turn-room, turn-more, turn-short, turn-end}
+use Rattle.block_binary.proofs.Blocks.{Turn, unsigned, turn-start, turn-room, turn-some, turn-more, turn-short, turn-end}
 use Rattle.block_binary.proofs.unsigned.draw_blocks_u64.Statement.{statement}
 use Rattle.block_binary.proofs.unsigned.draw_blocks_u64.Tie as tie
 
@@ -44,7 +44,9 @@ part-fill-block-u64-end : tie.Need-part-fill-block-u64-end Inv-loop μ-loop
 part-fill-block-u64-end c = turn-room unsigned (c .before .before .before .before .before .loop .inv) (c .before .before .before .before .loop-test .taken)
 
 fill-block-u64-requires : tie.Need-fill-block-u64-requires Inv-loop μ-loop
-fill-block-u64-requires c κs = search needs
+fill-block-u64-requires c κs =
+    turn-some unsigned (c .before .before .before .before .before .before .loop .inv) (c .before .before .before .before .before .before .before .before .before .pre .0)
+    (c .before .before .before .before .before .loop-test .taken)
 
 loop-less : tie.Need-loop-less Inv-loop μ-loop
 loop-less c = omega (arith, c .before .before .before .before .before .before .before .before .before .before .before .before .pre .0)

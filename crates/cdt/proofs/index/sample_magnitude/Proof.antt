@@ -5,7 +5,7 @@ use native.Mathlib.Omega.{arith}
 use lib.Dec.{eqb}
 use borrow.Author.Needs.{needs}
 use Rattle.distr.specs.Gaussian.{signed}
-use Rattle.cdt.proofs.Halving.{table-length, magnitude-top}
+use Rattle.cdt.proofs.Climbing.{table-length, magnitude-top, guided-start}
 use Rattle.cdt.proofs.index.sample_magnitude.Statement.{statement}
 use Rattle.cdt.proofs.index.sample_magnitude.Tie as tie
 
@@ -15,17 +15,29 @@ mul-word c = search needs
 add-word : tie.Need-add-word
 add-word c = search needs
 
-cdt-index-requires : tie.Need-cdt-index-requires
-cdt-index-requires c κs = search needs
+mul-start : tie.Need-mul-start
+mul-start c = search needs
+
+element-copy-out-start : tie.Need-element-copy-out-start
+element-copy-out-start c = search needs
+
+index-from-requires : tie.Need-index-from-requires
+index-from-requires c κs =
+    let s = c .before .before in
+    let a = s .args in
+    (s .pre .0, guided-start (a .bounds .now) (a .top) (s .pre .0) (a .guide .now) (s .pre .1) (a .low + a .high * 2 ^ 32) (omega arith))
 
 returns : tie.Need-returns
 returns c =
-    let a = c .before .before .args in
-    let w = a .low + a .high * 2 ^ 32 in
-    let table = c .before .before .pre in (
-      rw (c .cdt-index .ensures) (omega (arith, magnitude-top (a .bounds .now) (a .top) w table, table-length (a .bounds .now) (a .top) w table)),
-      ap (signed (eqb (w % 2) 1)) (c .cdt-index .ensures),
+    let s = c .before .before .before in
+    let a = s .args in
+    let w = a .low + a .high * 2 ^ 32 in (
+      rw (c .index-from .ensures)
+          (omega (arith, magnitude-top (a .bounds .now) (a .top) (s .pre .0) w, table-length (a .bounds .now) (a .top) (s .pre .0))),
+      ap (signed (eqb (w % 2) 1)) (c .index-from .ensures),
     )
 
 pub sample-magnitude-spec : {M : Type 1} → statement M
-sample-magnitude-spec = tie.close (tie.spec mul-word add-word cdt-index-requires returns)
+sample-magnitude-spec =
+    tie.close
+    (tie.spec mul-word add-word mul-start element-copy-out-start index-from-requires returns)

@@ -12,12 +12,15 @@ use Rattle.cdt.proofs.store.fill_i64.Statement.{statement}
 use Rattle.cdt.proofs.store.fill_i64.Tie as tie
 
 abbrev Inv-loop : tie.InvT-loop
-Inv-loop output₀ top bounds words place n i₀ at₀ output i at =
+Inv-loop output₀ top bounds words place n guide i₀ at₀ output i at =
     (i ≤ length output₀) × (at ≡ place + 2 * i) × (length output ≡ length output₀)
     × (output ≡ written (elements (cumulativeValue top bounds) words place (length output₀)) i output₀)
 
 abbrev μ-loop : tie.MeasureT-loop
-μ-loop output₀ top bounds words place n i₀ at₀ output i at = n - i
+μ-loop output₀ top bounds words place n guide i₀ at₀ output i at = n - i
+
+make-guide-requires : tie.Need-make-guide-requires Inv-loop μ-loop
+make-guide-requires c κs = c .before .before .pre .0
 
 loop-holds : tie.Need-loop-holds Inv-loop μ-loop
 loop-holds c = (omega arith, omega arith, refl, refl)
@@ -39,13 +42,13 @@ shared-slice-read-sample-magnitude-2 :
 shared-slice-read-sample-magnitude-2 c = omega arith
 
 sample-magnitude-requires : tie.Need-sample-magnitude-requires Inv-loop μ-loop
-sample-magnitude-requires c κs = c .before .before .before .before .before .before .pre .0
+sample-magnitude-requires c κs = (c .before .before .before .before .before .before .before .before .pre .0, c .before .before .before .before .before .make-guide .ensures)
 
 encode-signed-requires : tie.Need-encode-signed-requires Inv-loop μ-loop
 encode-signed-requires c κs = c .sample-magnitude .ensures .0
 
-mul-t11 : tie.Need-mul-t11 Inv-loop μ-loop
-mul-t11 c = omega arith
+mul-t14 : tie.Need-mul-t14 Inv-loop μ-loop
+mul-t14 c = omega arith
 
 slice-set-from-output : tie.Need-slice-set-from-output Inv-loop μ-loop
 slice-set-from-output c = omega arith
@@ -61,8 +64,8 @@ loop-less c = omega arith
 
 loop-again : tie.Need-loop-again Inv-loop μ-loop
 loop-again c =
-    let start = c .before .before .before .before .before .before .before .before in
-    let turn = c .before .before .before .before .before .loop in
+    let start = c .before .before .before .before .before .before .before .before .before .before in
+    let turn = c .before .before .before .before .before .before .loop in
     let sampled = c .before .sample-magnitude .result in
     let fits = signed-fits (sampled .positive) (sampled .magnitude) (c .before .sample-magnitude .ensures .0) in (
       omega arith,
@@ -79,7 +82,7 @@ same-length c = c .before .loop .inv .2
 
 returns : tie.Need-returns Inv-loop μ-loop
 returns c =
-    let start = c .before .before .before .before in
+    let start = c .before .before .before .before .before in
     let turn = c .before .loop in
     pick-all (cumulativeValue (start .args .top) (start .args .bounds .now))
     (start .args .words .now) (start .args .place) (start .args .output .now) (turn .i) (turn .output) (start .pre .1) (omega arith) (turn .inv .3)
@@ -90,6 +93,7 @@ fill-i64-spec =
     (tie.spec
     Inv-loop
     μ-loop
+    make-guide-requires
     loop-holds
     mul-sample-magnitude
     shared-slice-read-sample-magnitude
@@ -98,7 +102,7 @@ fill-i64-spec =
     shared-slice-read-sample-magnitude-2
     sample-magnitude-requires
     encode-signed-requires
-    mul-t11
+    mul-t14
     slice-set-from-output
     add-i
     add-at

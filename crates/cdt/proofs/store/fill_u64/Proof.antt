@@ -11,12 +11,15 @@ use Rattle.cdt.proofs.store.fill_u64.Statement.{statement}
 use Rattle.cdt.proofs.store.fill_u64.Tie as tie
 
 abbrev Inv-loop : tie.InvT-loop
-Inv-loop output₀ minus-one top bounds words place n i₀ at₀ output i at =
+Inv-loop output₀ minus-one top bounds words place n guide i₀ at₀ output i at =
     (i ≤ length output₀) × (at ≡ place + 2 * i) × (length output ≡ length output₀)
     × (output ≡ written (elements (λ w. encodeWith minus-one (cumulativeValue top bounds w)) words place (length output₀)) i output₀)
 
 abbrev μ-loop : tie.MeasureT-loop
-μ-loop output₀ minus-one top bounds words place n i₀ at₀ output i at = n - i
+μ-loop output₀ minus-one top bounds words place n guide i₀ at₀ output i at = n - i
+
+make-guide-requires : tie.Need-make-guide-requires Inv-loop μ-loop
+make-guide-requires c κs = c .before .before .before .pre .0
 
 loop-holds : tie.Need-loop-holds Inv-loop μ-loop
 loop-holds c = (omega arith, omega arith, refl, refl)
@@ -38,7 +41,7 @@ shared-slice-read-sample-magnitude-2 :
 shared-slice-read-sample-magnitude-2 c = omega arith
 
 sample-magnitude-requires : tie.Need-sample-magnitude-requires Inv-loop μ-loop
-sample-magnitude-requires c κs = c .before .before .before .before .before .before .before .pre .0
+sample-magnitude-requires c κs = (c .before .before .before .before .before .before .before .before .before .pre .0, c .before .before .before .before .before .make-guide .ensures)
 
 encode-modular-requires : tie.Need-encode-modular-requires Inv-loop μ-loop
 encode-modular-requires c κs = tt
@@ -60,8 +63,8 @@ loop-less c = omega arith
 
 loop-again : tie.Need-loop-again Inv-loop μ-loop
 loop-again c =
-    let start = c .before .before .before .before .before .before .before .before .before in
-    let turn = c .before .before .before .before .before .loop in (
+    let start = c .before .before .before .before .before .before .before .before .before .before .before in
+    let turn = c .before .before .before .before .before .before .loop in (
       omega arith,
       omega arith,
       simp length-set (turn .inv .2),
@@ -76,7 +79,7 @@ same-length c = c .before .loop .inv .2
 
 returns : tie.Need-returns Inv-loop μ-loop
 returns c =
-    let start = c .before .before .before .before .before in
+    let start = c .before .before .before .before .before .before in
     let turn = c .before .loop in
     pick-all (λ (w : ℕ). encodeWith (start .args .minus-one) (cumulativeValue (start .args .top) (start .args .bounds .now) w))
     (start .args .words .now) (start .args .place) (start .args .output .now) (turn .i) (turn .output) (start .pre .1) (omega arith) (turn .inv .3)
@@ -87,6 +90,7 @@ fill-u64-spec =
     (tie.spec
     Inv-loop
     μ-loop
+    make-guide-requires
     loop-holds
     mul-sample-magnitude
     shared-slice-read-sample-magnitude
