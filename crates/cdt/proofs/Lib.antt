@@ -1,5 +1,4 @@
 pub mod Climbing
 pub mod Judging
-pub mod Signing
 pub mod Settling
 pub mod Answering

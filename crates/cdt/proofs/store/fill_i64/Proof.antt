@@ -1,12 +1,13 @@
 -- `fill_i64` writes what the 64-bit words give. The loop's invariant: the first i elements are written, by the words up to `at`.
 use mathlib.Core.Path.{_≡_, refl, _∙_}
-use Prim.Native.Nat.{_+_, _*_, _-_, _≤_}
+use Prim.Native.Nat.{_+_, _*_, _-_, _≤_, _^_}
 use native.Mathlib.Omega.{arith}
+use borrow.Author.Needs.{sfits-of}
+use borrow.Author.Tests.{lt-ltb}
 use lib.ListN.{length, length-set}
 use mir.Facts.{toZ-ofZ}
 use Rattle.distr.specs.Gaussian.{cumulativeValue}
 use Rattle.distr.proofs.Writing.{written}
-use Rattle.cdt.proofs.Signing.{signed-fits}
 use Rattle.distr.proofs.Picking.{elements, pick-more, pick-all}
 use Rattle.cdt.proofs.store.fill_i64.Statement.{statement}
 use Rattle.cdt.proofs.store.fill_i64.Tie as tie
@@ -45,7 +46,7 @@ sample-magnitude-requires : tie.Need-sample-magnitude-requires Inv-loop μ-loop
 sample-magnitude-requires c κs = (c .before .before .before .before .before .before .before .before .pre .0, c .before .before .before .before .before .make-guide .ensures)
 
 encode-signed-requires : tie.Need-encode-signed-requires Inv-loop μ-loop
-encode-signed-requires c κs = c .sample-magnitude .ensures .0
+encode-signed-requires c κs = tt
 
 mul-t14 : tie.Need-mul-t14 Inv-loop μ-loop
 mul-t14 c = omega arith
@@ -66,15 +67,14 @@ loop-again : tie.Need-loop-again Inv-loop μ-loop
 loop-again c =
     let start = c .before .before .before .before .before .before .before .before .before .before in
     let turn = c .before .before .before .before .before .before .loop in
-    let sampled = c .before .sample-magnitude .result in
-    let fits = signed-fits (sampled .positive) (sampled .magnitude) (c .before .sample-magnitude .ensures .0) in (
+    let held = lt-ltb (c .before .sample-magnitude .result .magnitude) (2 ^ 63) (c .before .sample-magnitude .ensures .0) in (
       omega arith,
       omega arith,
       simp length-set (turn .inv .2),
       rw (turn .inv .3)
           (pick-more (cumulativeValue (start .args .top) (start .args .bounds .now))
           (start .args .words .now) (start .args .place) (start .args .output .now) (turn .i) (turn .at) _ (omega arith) (turn .inv .1)
-          (toZ-ofZ (rw (c .encode-signed .ensures) fits) ∙ c .encode-signed .ensures ∙ c .before .sample-magnitude .ensures .1)),
+          (toZ-ofZ (sfits-of (c .encode-signed .ok)) ∙ (rw held at (c .encode-signed .ensures)) ∙ c .before .sample-magnitude .ensures .1)),
     )
 
 same-length : tie.Need-same-length Inv-loop μ-loop
