@@ -1,12 +1,14 @@
 -- Filling an output with one reading after the other: what is left to read, put behind what is stored, is what the whole reading gives.
 use mathlib.Core.Path.{_≡_, refl, sym, ap, _∙_}
+use mathlib.Core.Bool.{Bool, true, false, cond}
+use mir.Val.{boolByte}
 use mathlib.Core.List.{List, _∷_, _++_, map, append-nil}
 use Prim.Native.Nat.{ℕ, suc, _+_, _-_, _<_, _≤_}
-use native.Mathlib.Nat.{sub-zero}
+use native.Mathlib.Nat.{le-refl, sub-zero}
 use native.Mathlib.Numerals.{add-one}
 use native.Mathlib.Omega.{arith}
 use lib.ListN.{length, take, drop, set, replicate, length-set}
-use lib.Seq.{take-suc-set, take-all, append-snoc}
+use lib.Seq.{take-set-le, take-suc-set, take-all, append-snoc}
 use lib.IntN.{ℤ, pos}
 use Rattle.distr.specs.Words.{Read, got, short, mapRead, bindRead, many}
 use Rattle.distr.specs.Draw.{settled}
@@ -18,12 +20,13 @@ module _ {A : Type 0} (put : ℤ → A) (one : List ℕ → Read ℤ) (words : L
   Whole = mapRead (map put) (many one (length out₀) (drop place words))
 
   pub record Filled (i at : ℕ) (out : List A) : Type 0 where
+    pub fits : i ≤ length out₀
     pub sized : length out ≡ length out₀
     pub within : at ≤ length words
     pub same : mapRead (λ cs. take i out ++ map put cs) (many one (length out₀ - i) (drop at words)) ≡ Whole
 
   pub filled-none : place ≤ length words → Filled 0 place out₀
-  filled-none h = record { sized = refl; within = h; same = rw (sub-zero (length out₀)) }
+  filled-none h = record { fits = omega arith; sized = refl; within = h; same = rw (sub-zero (length out₀)) }
 
   -- one more reading: there, or short
   next : (i : ℕ) (ws : List ℕ) → i < length out₀
@@ -33,41 +36,42 @@ module _ {A : Type 0} (put : ℤ → A) (one : List ℕ → Read ℤ) (words : L
       let left : length out₀ - i ≡ suc (length out₀ - (i + 1)) = omega arith in
       rw left
 
-  pub filled-more : (i at later : ℕ) (out : List A) (v : ℤ) → i < length out₀ → Filled i at out → one (drop at words) ≡ got v (drop later words)
-      → later ≤ length words → Filled (i + 1) later (set out i (put v))
+  -- a turn stores what was read, and counts it where it passed: what is not counted is written over, and is read again from later words on
+  pub filled-turn : (i at later : ℕ) (out : List A) (a : A) (v : ℤ) (passed : Bool) → i < length out₀ → Filled i at out
+      → one (drop at words) ≡ cond passed (got v (drop later words)) (one (drop later words)) → later ≤ length words → a ≡ put v
+      → Filled (i + boolByte passed) later (set out i a)
   unfolding bindRead mapRead
-  filled-more i at later out v h f e k = record {
-    sized = length-set out i (put v) ∙ f .sized;
+  filled-turn i at later out a v true h f e k s = record {
+    fits = omega arith;
+    sized = length-set out i a ∙ f .sized;
     within = k;
-    same =
-        moved (many one (length out₀ - (i + 1)) (drop later words))
-        ∙ (rw (next i (drop at words) h, e) at (f .same));
+    same = moved (many one (length out₀ - (i + 1)) (drop later words)) ∙ (rw (next i (drop at words) h, e) at (f .same));
   }
     where
-      stored : (cs : List ℤ) → take (i + 1) (set out i (put v)) ++ map put cs ≡ take i out ++ (put v ∷ map put cs)
-      stored cs = rw (add-one i, take-suc-set out i (put v) (omega (arith, f .sized))) (append-snoc (take i out) (put v) (map put cs))
+      stored : (cs : List ℤ) → take (i + 1) (set out i a) ++ map put cs ≡ take i out ++ (put v ∷ map put cs)
+      stored cs = rw (s, add-one i, take-suc-set out i (put v) (omega (arith, f .sized))) (append-snoc (take i out) (put v) (map put cs))
 
-      moved : (r : Read (List ℤ))
-          → mapRead (λ cs. take (i + 1) (set out i (put v)) ++ map put cs) r ≡ mapRead (λ cs. take i out ++ map put cs) (mapRead (λ cs. v ∷ cs) r)
+      moved : (r : Read (List ℤ)) → mapRead (λ cs. take (i + 1) (set out i a) ++ map put cs) r
+          ≡ mapRead (λ cs. take i out ++ map put cs) (mapRead (λ cs. v ∷ cs) r)
       moved (got cs rest) = ap (λ (l : List A). got l rest) (stored cs)
       moved short = refl
-
-  -- a reading that is the same from later words on
-  pub filled-skip : (i at later : ℕ) (out : List A) → i < length out₀ → Filled i at out → one (drop at words) ≡ one (drop later words) → later ≤ length words
-      → Filled i later out
-  filled-skip i at later out h f e k = record {
-    sized = f .sized;
-    within = k;
-    same = rw (next i (drop later words) h, ← e, ← next i (drop at words) h) (f .same);
-  }
+  filled-turn i at later out a v false h f e k s =
+      let none : i + 0 ≡ i = omega arith in
+      rw none
+      (record {
+        fits = f .fits;
+        sized = length-set out i a ∙ f .sized;
+        within = k;
+        same = rw (take-set-le i out i a (le-refl i), next i (drop later words) h, ← e, ← next i (drop at words) h) (f .same);
+      })
 
   pub filled-short : (i at : ℕ) (out : List A) → i < length out₀ → Filled i at out → one (drop at words) ≡ short → Whole ≡ short
   unfolding bindRead mapRead
   filled-short i at out h f e = sym (f .same) ∙ rw (next i (drop at words) h, e)
 
-  pub filled-all : (i at : ℕ) (out : List A) → i ≤ length out₀ → length out₀ ≤ i → Filled i at out → Whole ≡ got out (drop at words)
+  pub filled-all : (i at : ℕ) (out : List A) → length out₀ ≤ i → Filled i at out → Whole ≡ got out (drop at words)
   unfolding many mapRead
-  filled-all i at out h k f =
+  filled-all i at out k f =
       let none : length out₀ - i ≡ 0 = omega arith in
       sym (rw none at (f .same)) ∙ ap (λ (l : List A). got l (drop at words)) (append-nil (take i out) ∙ take-all i out (omega (arith, f .sized)))
 

@@ -15,6 +15,10 @@ getD-there [] i d e h = absurd (not-suc-le-zero h)
 getD-there (x ∷ xs) zero d e h = refl
 getD-there (x ∷ xs) (suc i) d e h = getD-there xs i d e (le-of-suc-le-suc h)
 
+-- what a test of neighbours has come to: what is left begins one element back
+abbrev pub Paired : {A : Type 0} → (List A → Bool) → Bool → ℕ → List A → Type 0
+Paired all ok i xs = (0 < i) × (ok && all (drop (i - 1) xs) ≡ all xs)
+
 module _ {A : Type 0} (all : List A → Bool) (none : all [] ≡ true) where
   -- the test of each element
   pub each-more : (test : A → Bool) → ((x : A) (xs : List A) → all (x ∷ xs) ≡ test x && all xs)
@@ -30,11 +34,12 @@ module _ {A : Type 0} (all : List A → Bool) (none : all [] ≡ true) where
 
   -- the test of each element and the one before it
   pub pair-more : (test : A → A → Bool) → ((x y : A) (xs : List A) → all (x ∷ y ∷ xs) ≡ test x y && all (y ∷ xs))
-      → (ok : Bool) (i : ℕ) (xs : List A) (d : A) → 0 < i → i < length xs → ok && all (drop (i - 1) xs) ≡ all xs
-      → ok && test (getD xs (i - 1) d) (getD xs i d) && all (drop (i + 1 - 1) xs) ≡ all xs
-  pair-more test step ok i xs d some h inv =
-      and-assoc ok (test a b) (all (drop (i + 1 - 1) xs))
-      ∙ ap (λ (t : Bool). ok && t) (ap (λ (k : ℕ). test a b && all (drop k xs)) same ∙ sym first) ∙ inv
+      → (ok : Bool) (i : ℕ) (xs : List A) (d : A) → i < length xs → Paired all ok i xs → Paired all (ok && test (getD xs (i - 1) d) (getD xs i d)) (i + 1) xs
+  pair-more test step ok i xs d h inv = (
+    omega arith,
+    and-assoc ok (test a b) (all (drop (i + 1 - 1) xs))
+        ∙ ap (λ (t : Bool). ok && t) (ap (λ (k : ℕ). test a b && all (drop k xs)) same ∙ sym first) ∙ inv .1,
+  )
     where
       a : A
       a = getD xs (i - 1) d
@@ -46,16 +51,16 @@ module _ {A : Type 0} (all : List A → Bool) (none : all [] ≡ true) where
       same = omega arith
 
       next : suc (i - 1) ≡ i
-      next = omega arith
+      next = omega (arith, inv .0)
 
       first : all (drop (i - 1) xs) ≡ test a b && all (drop i xs)
       first =
           ap all (drop-cons xs (i - 1) d (omega arith) ∙ ap (λ (k : ℕ). a ∷ drop k xs) next ∙ ap (λ (l : List A). a ∷ l) (drop-cons xs i d h))
           ∙ step a b (drop (suc i) xs) ∙ ap (λ (l : List A). test a b && all l) (sym (drop-cons xs i d h))
 
-  pub pair-all : ((x : A) → all (x ∷ []) ≡ true)
-      → (ok : Bool) (i : ℕ) (xs : List A) → length xs ≤ i → ok && all (drop (i - 1) xs) ≡ all xs → ok ≡ all xs
-  pair-all one ok i xs h inv = sym (and-true ok) ∙ ap (λ (b : Bool). ok && b) (sym (short (drop (i - 1) xs) (omega (arith, length-drop (i - 1) xs)))) ∙ inv
+  pub pair-all : ((x : A) → all (x ∷ []) ≡ true) → (ok : Bool) (i : ℕ) (xs : List A) → length xs ≤ i → Paired all ok i xs → ok ≡ all xs
+  pair-all one ok i xs h inv =
+      sym (and-true ok) ∙ ap (λ (b : Bool). ok && b) (sym (short (drop (i - 1) xs) (omega (arith, length-drop (i - 1) xs)))) ∙ inv .1
     where
       short : (ys : List A) → length ys ≤ 1 → all ys ≡ true
       short [] k = none

@@ -1,92 +1,81 @@
--- Whether a proposal passes, case by case: inside the layer above, zero, and on the fringe.
-use mathlib.Core.Path.{_≡_, refl, sym, ap, _∙_}
+-- Whether a proposal passes, case by case: inside the layer above, zero, and on the fringe; and how many words each case reads.
+use mathlib.Core.Path.{_≡_}
 use mathlib.Core.Bool.{Bool, true, false, cond}
-use mathlib.Core.List.{List, [], _∷_}
-use Prim.Native.Nat.{ℕ, suc, _+_, _-_, _^_, _≤_}
-use native.Mathlib.Nat.{le-refl}
+use mathlib.Core.List.{List}
+use Prim.Native.Nat.{ℕ, _+_, _-_, _*_, _^_, _<_, _≤_}
+use native.Mathlib.Nat.{ne-of-lt, add-zero}
+use native.Mathlib.Numerals.{add-one, add-two}
 use native.Mathlib.Omega.{arith}
 use lib.Dec.{T, leb, ltb, eqb}
 use borrow.Author.Tests.{ne-eqb}
-use lib.ListN.{length, getD, drop, length-drop}
-use lib.Seq.{drop-drop}
+use lib.ListN.{length, getD, drop}
 use lib.Ieee.{Float, le}
-use Rattle.distr.specs.Words.{Read, got, short, mapRead, word, wide, chance}
+use Rattle.distr.specs.Words.{got, short, mapRead, word, wide, chance}
 use Rattle.distr.specs.Layered.{Layers, x, float, accepts, zeroThreshold, judge, layerTables}
-use Rattle.words.specs.declared.Told.{Told}
-use Rattle.words.specs.declared.Told.the-variants.{Yes}
-use Rattle.words.specs.Reading.{told}
-use Rattle.words.proofs.Places.{place-of, word-there}
-use Rattle.words.proofs.Taking.{Took}
-use Rattle.ziggurat.specs.Sampling.{OnLayer, isInside, Judges, judgeEdge}
-use Rattle.ziggurat.proofs.LayerTables.{inner-small}
+use Rattle.distr.specs.declared.threshold.Threshold.{Threshold}
+use Rattle.words.specs.Reading.{thresholdValue}
+use Rattle.words.proofs.Places.{word-there, word-missing, wide-there, wide-missing}
+use Rattle.ziggurat.specs.Sampling.{OnLayer, OnTables, isInside, judgeEdge, edgeWords}
+use Rattle.ziggurat.proofs.LayerTables.{inner-small, magnitude-there, height-there}
 use Rattle.ziggurat.proofs.Floats.{float-le}
 
--- a reading that succeeds leaves the words after the first of those that were left
-abbrev pub Leaves : {A : Type 0} → Read A → List ℕ → Type 0
-Leaves (got a rest) xs = (m : ℕ) × (m ≤ length xs) × (rest ≡ drop m xs)
-Leaves short xs = Unit
+-- a threshold that is not full is what its 64 bits hold
+pub not-full : (z : Threshold) → z .full ≡ false → thresholdValue z ≡ z .below
+not-full z e = rw e
 
-pub chance-leaves : (threshold : ℕ) (xs : List ℕ) → Leaves (chance threshold xs) xs
-unfolding chance wide mapRead
-chance-leaves threshold xs = go (eqb threshold (2 ^ 64)) xs
-  where
-    go : (full : Bool) (xs : List ℕ) → Leaves (cond full (got true xs) (mapRead (λ w. ltb w threshold) (wide xs))) xs
-    go true xs = (0, omega arith, refl)
-    go false [] = tt
-    go false (v ∷ []) = tt
-    go false (v ∷ w ∷ xs) = (2, omega arith, refl)
+-- the words that the judging reads: one on the fringe; for zero two, none by the full threshold
+module _ (k m : ℕ) where
+  pub fringe-words : (m ≡ 0 → ⊥) → edgeWords k m ≡ 1
+  unfolding edgeWords
+  fringe-words some = rw (ne-eqb m 0 some)
 
--- the words left begin at the place that is told
-begins : (ws rest : List ℕ) (place m : ℕ) → place ≤ length ws → m ≤ length (drop place ws) → rest ≡ drop m (drop place ws)
-    → (drop (length ws - length rest) ws ≡ rest) × (place ≤ length ws - length rest) × (length ws - length rest ≤ length ws)
-begins ws rest place m h k e =
-    let left : rest ≡ drop (place + m) ws = e ∙ drop-drop m place ws in
-    let at : length ws - length rest ≡ place + m =
-    ap (λ (l : List ℕ). length ws - length l) left ∙ place-of ws (place + m) (omega (arith, length-drop place ws)) in
-    (ap (λ (p : ℕ). drop p ws) at ∙ sym left, omega arith, omega arith)
+  pub full-words : m ≡ 0 → k ≡ 2 ^ 64 → edgeWords k m ≡ 0
+  unfolding edgeWords
+  full-words e f = rw (e, f)
 
--- what is told of such a reading says what was read
-pub told-judges : (ws : List ℕ) (place : ℕ) → place ≤ length ws → (r read : Read Bool) → Leaves r (drop place ws) → r ≡ read
-    → Judges ws place (told (length ws) r) read
-unfolding told
-told-judges ws place h (got true rest) read l e =
-    let b = begins ws rest place (l .0) h (l .1) (l .2) in
-    record { reads = ap (got true) (b .0) ∙ e; sound = (b .1, b .2) }
-told-judges ws place h (got false rest) read l e =
-    let b = begins ws rest place (l .0) h (l .1) (l .2) in
-    record { reads = ap (got false) (b .0) ∙ e; sound = (b .1, b .2) }
-told-judges ws place h short read l e = record { reads = e; sound = tt }
+  pub zero-words : m ≡ 0 → k < 2 ^ 64 → edgeWords k m ≡ 2
+  unfolding edgeWords
+  zero-words e h = rw (e, ne-eqb k (2 ^ 64) (ne-of-lt h))
 
--- the word that was taken stands at the place
-pub word-value : (ws : List ℕ) (i v p : ℕ) → Took ws i (word (drop i ws)) v p → v ≡ getD ws i 0
-word-value ws i v p took =
-    let there : word (drop i ws) ≡ got (getD ws i 0) (drop (suc i) ws) = word-there ws i (omega (arith, took .later, took .within)) in
-    let read : word (drop i ws) ≡ got v (drop p ws) = took .reads in
-    cc
+module _ (deviation : Float) (t : Layers) (i m k : ℕ) (same : k ≡ zeroThreshold t) (ws : List ℕ) (place : ℕ) where
+  -- what the judging at the edge reads, where the words are there
+  pub full-passes : m ≡ 0 → k ≡ 2 ^ 64 → judgeEdge deviation t i m (drop place ws) ≡ got true (drop (place + edgeWords k m) ws)
+  unfolding judgeEdge chance
+  full-passes e f = rw (full-words k m e f, e, ← same, f, add-zero place)
 
-module _ (deviation : Float) (t : Layers) (i m : ℕ) (ws : List ℕ) where
-  pub at-zero : m ≡ 0 → judgeEdge deviation t i m ws ≡ chance (zeroThreshold t) ws
-  unfolding judgeEdge
-  at-zero e = rw e
+  pub zero-passes : m ≡ 0 → (below : ℕ) → k ≡ below → below < 2 ^ 64 → place + 1 < length ws
+      → judgeEdge deviation t i m (drop place ws)
+      ≡ got (ltb (getD ws place 0 + getD ws (place + 1) 0 * 2 ^ 32) below) (drop (place + edgeWords k m) ws)
+  unfolding judgeEdge chance mapRead
+  zero-passes e below f h there =
+      rw (zero-words k m e (omega arith), e, ← same, f, ne-eqb below (2 ^ 64) (ne-of-lt h), wide-there ws place (omega arith), add-one place, add-two place)
 
-  pub fringe-short : (m ≡ 0 → ⊥) → word ws ≡ short → judgeEdge deviation t i m ws ≡ short
+  pub fringe-passes : (m ≡ 0 → ⊥) → place < length ws
+      → judgeEdge deviation t i m (drop place ws) ≡ got (accepts deviation t i m (getD ws place 0)) (drop (place + edgeWords k m) ws)
   unfolding judgeEdge mapRead
-  fringe-short some e = rw (ne-eqb m 0 some, e)
+  fringe-passes some there = rw (fringe-words k m some, ne-eqb m 0 some, word-there ws place there, add-one place)
 
-  pub fringe-got : (m ≡ 0 → ⊥) → (u : ℕ) (rest : List ℕ) → word ws ≡ got u rest → judgeEdge deviation t i m ws ≡ got (accepts deviation t i m u) rest
-  unfolding judgeEdge mapRead
-  fringe-got some u rest e = rw (ne-eqb m 0 some, e)
+  -- and where one of them lacks
+  pub edge-lacks : place ≤ length ws → length ws < place + edgeWords k m → judgeEdge deviation t i m (drop place ws) ≡ short
+  unfolding judgeEdge chance mapRead edgeWords
+  edge-lacks within h = rw (← same) (go (eqb m 0) (eqb k (2 ^ 64)) h)
+    where
+      go : (zero full : Bool) → length ws < place + cond zero (cond full 0 2) 1
+          → cond zero (cond full (got true (drop place ws)) (mapRead (λ w. ltb w k) (wide (drop place ws))))
+          (mapRead (λ u. accepts deviation t i m u) (word (drop place ws))) ≡ short
+      go true true h = absurd (omega (arith, within))
+      go true false h = rw (wide-missing ws place (omega arith))
+      go false full h = rw (word-missing ws place (omega arith))
 
--- a trial of good tables: inside the layer above it passes, another is left to the edge
-module _ (deviation : Float) (M : ℕ) (t : Layers) (ok : T (layerTables M t)) (i m : ℕ) (on : OnLayer (t .endpoints) i m) (ws : List ℕ) (place : ℕ) where
+-- a trial on a layer of good tables
+module _ (deviation : Float) (M : ℕ) (t : Layers) (ok : T (layerTables M t)) (i m : ℕ) (on : OnLayer (t .endpoints) i m) where
+  pub on-tables : OnTables t i m
+  on-tables = record { on = on; inner = inner-small M t ok i m on; height = height-there M t ok i m on; value = magnitude-there M t ok i m on }
+
   -- both sides of the test are f64 exactly
   exact : le (float m) (x t (i - 1)) ≡ leb m (getD (t .endpoints) (i - 1) 0)
   exact = float-le m (getD (t .endpoints) (i - 1) 0) (omega (arith, on .below, on .small)) (omega (arith, inner-small M t ok i m on))
 
-  pub inside-judges : isInside (t .endpoints) i m ≡ true → place ≤ length ws → Judges ws place (Yes place) (judge deviation t i m (drop place ws))
-  inside-judges e h = record { reads = sym (rw (exact, e)); sound = (le-refl place, h) }
-
-  pub edge-judges : (r : Told) → isInside (t .endpoints) i m ≡ false → Judges ws place r (judgeEdge deviation t i m (drop place ws))
-      → Judges ws place r (judge deviation t i m (drop place ws))
+  pub judge-sides : (ws : List ℕ) → judge deviation t i m ws ≡ cond (isInside (t .endpoints) i m) (got true ws) (judgeEdge deviation t i m ws)
   unfolding judgeEdge
-  edge-judges r e j = rw (exact, e) j
+  judge-sides ws = rw exact

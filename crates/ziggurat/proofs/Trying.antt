@@ -172,12 +172,8 @@ module _ (deviation : Float) (t : Layers) where
       unfolding orElse mapRead
       none-judged e = judged short e
 
-      pub passed : (later : List ℕ) → judge deviation t (p .layer) (p .magnitude) rest ≡ got true later
-          → layeredOne deviation t ws ≡ got (signed (p .positive) (p .magnitude)) later
+      pub one-judged : (passed : Bool) (later : List ℕ) → judge deviation t (p .layer) (p .magnitude) rest ≡ got passed later
+          → layeredOne deviation t ws ≡ cond passed (got (signed (p .positive) (p .magnitude)) later) (layeredOne deviation t later)
       unfolding orElse mapRead
-      passed later e = judged (got true later) e
-
-      pub failed : (later : List ℕ) → judge deviation t (p .layer) (p .magnitude) rest ≡ got false later
-          → layeredOne deviation t ws ≡ layeredOne deviation t later
-      unfolding orElse mapRead
-      failed later e = judged (got false later) e
+      one-judged true later e = judged (got true later) e
+      one-judged false later e = judged (got false later) e

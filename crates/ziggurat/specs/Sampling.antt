@@ -1,15 +1,16 @@
 -- A try's proposal, and what the functions that read one coefficient hand back: what was read, and where the words left begin.
 use Prim.Native.Nat.{ℕ, suc, _+_, _-_, _^_, _<_, _≤_}
 use mathlib.Core.Path.{_≡_}
-use mathlib.Core.Bool.{Bool, true, false, cond, _&&_}
+use mathlib.Core.Bool.{Bool, false, cond, _&&_}
 use mathlib.Core.List.{List}
 use lib.Dec.{leb, ltb, eqb}
 use lib.ListN.{length, getD, drop}
 use lib.Ieee.{Float}
 use Rattle.distr.specs.Words.{Read, got, short, mapRead, bindRead, word, choose, coin, chance}
 use Rattle.distr.specs.Layered.{Layers, accepts, zeroThreshold}
-use Rattle.words.specs.declared.Told.{Told}
-use Rattle.words.specs.declared.Told.the-variants.{Yes, No, Short as NotTold}
+use Rattle.ziggurat.specs.declared.sampling.Trial.{Trial}
+use Rattle.ziggurat.specs.declared.sampling.Attempted.{Attempted}
+use Rattle.ziggurat.specs.declared.sampling.Attempted.the-variants.{Got as Begun, Short as Unbegun}
 use Rattle.ziggurat.specs.declared.sampling.Proposal.{Proposal}
 use Rattle.ziggurat.specs.declared.sampling.Proposal.the-variants.{Got, Short}
 
@@ -32,6 +33,13 @@ pub record OnLayer (endpoints : List ℕ) (layer magnitude : ℕ) : Type 0 where
   pub below : magnitude ≤ getD endpoints layer 0
   pub small : getD endpoints layer 0 < 2 ^ 32
 
+-- A magnitude on a layer, in all three tables.
+pub record OnTables (t : Layers) (layer magnitude : ℕ) : Type 0 where
+  pub on : OnLayer (t .endpoints) layer magnitude
+  pub inner : getD (t .endpoints) (layer - 1) 0 < 2 ^ 32
+  pub height : layer < length (t .heights)
+  pub value : magnitude < length (t .curve)
+
 -- What a proposal says was read, with the words left then; and that it is on a layer and passes a word.
 abbrev pub proposalRead : List ℕ → Proposal → Read Proposed
 proposalRead ws (Got c) = got (record { layer = c .layer; positive = c .positive; magnitude = c .magnitude }) (drop (c .place) ws)
@@ -45,21 +53,6 @@ pub record Proposes (endpoints ws : List ℕ) (place : ℕ) (r : Proposal) : Typ
   pub reads : proposalRead ws r ≡ propose endpoints (drop place ws)
   pub sound : proposalSound endpoints ws place r
 
--- The same of what is told of a trial, which may pass no word.
-abbrev pub toldRead : List ℕ → Told → Read Bool
-toldRead ws (Yes place) = got true (drop place ws)
-toldRead ws (No place) = got false (drop place ws)
-toldRead ws NotTold = short
-
-abbrev pub toldSound : List ℕ → ℕ → Told → Type 0
-toldSound ws at (Yes place) = (at ≤ place) × (place ≤ length ws)
-toldSound ws at (No place) = (at ≤ place) × (place ≤ length ws)
-toldSound ws at NotTold = Unit
-
-pub record Judges (ws : List ℕ) (place : ℕ) (r : Told) (read : Read Bool) : Type 0 where
-  pub reads : toldRead ws r ≡ read
-  pub sound : toldSound ws place r
-
 -- Inside the layer above, the test made on integers.
 abbrev pub isInside : List ℕ → ℕ → ℕ → Bool
 isInside endpoints i m = leb m (getD endpoints (i - 1) 0) && ltb 0 m
@@ -67,3 +60,24 @@ isInside endpoints i m = leb m (getD endpoints (i - 1) 0) && ltb 0 m
 -- The judging of what is not inside the layer above: "magnitude 0 passes by the threshold", another by a word.
 unfoldable pub judgeEdge : Float → Layers → ℕ → ℕ → List ℕ → Read Bool
 judgeEdge deviation t i m ws = cond (eqb m 0) (chance (zeroThreshold t) ws) (mapRead (λ u. accepts deviation t i m u) (word ws))
+
+-- How many words it reads, by the threshold of magnitude 0.
+unfoldable pub edgeWords : ℕ → ℕ → ℕ
+edgeWords threshold m = cond (eqb m 0) (cond (eqb threshold (2 ^ 64)) 0 2) 1
+
+-- A trial that can be judged: it was read, and the words of its judging are there.
+pub record Ready (endpoints : List ℕ) (threshold : ℕ) (ws : List ℕ) (at : ℕ) (tried : Trial) (inside : Bool) (after : ℕ) : Type 0 where
+  pub reads : Proposes endpoints ws at (Got tried)
+  pub side : inside ≡ isInside endpoints (tried .layer) (tried .magnitude)
+  pub next : after ≡ tried .place + cond inside 0 (edgeWords threshold (tried .magnitude))
+  pub within : after ≤ length ws
+
+-- Why none can be: a word of the proposal is missing, or one of its judging.
+pub data Lacks (endpoints : List ℕ) (threshold : ℕ) (ws : List ℕ) (at : ℕ) : Type 0 where
+  unproposed : Proposes endpoints ws at Short → Lacks endpoints threshold ws at
+  unjudged : (tried : Trial) → Proposes endpoints ws at (Got tried) → isInside endpoints (tried .layer) (tried .magnitude) ≡ false
+      → length ws < tried .place + edgeWords threshold (tried .magnitude) → Lacks endpoints threshold ws at
+
+abbrev pub Attempts : List ℕ → ℕ → List ℕ → ℕ → Attempted → Type 0
+Attempts endpoints threshold ws at (Begun tried inside after) = Ready endpoints threshold ws at tried inside after
+Attempts endpoints threshold ws at Unbegun = Lacks endpoints threshold ws at

@@ -1,12 +1,11 @@
 // The layered draw of residues of one modulus.
 use crate::sampling;
-use crate::sampling::Proposal;
+use crate::sampling::Attempted;
 use crate::tables;
 use distr::answer::Answer;
 use distr::gaussian_parameters::GaussianParameters;
 use distr::threshold::Threshold;
 use gaussian_core::encode;
-use words::Told;
 ghost use mathlib.Core.Path.{_≡_};
 ghost use mathlib.Core.List.{map};
 ghost use Prim.Native.Nat.{_≤_};
@@ -18,7 +17,7 @@ ghost use Rattle.distr.specs.Draw.{outcome, settled};
 ghost use Rattle.words.specs.Reading.{thresholdValue};
 ghost use Rattle.ziggurat.specs.Tables.{tables, layeredDraw};
 
-// Tries, and stores the residue of each coefficient that passes, as the signed draw stores the coefficient.
+// Tries, and stores the residue of each trial's coefficient, as the signed draw stores the coefficient.
 fn fill_u64(
     output: &mut [u64],
     minus_one: u64,
@@ -42,33 +41,29 @@ fn fill_u64(
     let mut i: usize = 0;
     let mut at = place;
     while i < n {
-        let Proposal::Got(tried) = sampling::propose(endpoints, words, at) else {
+        let Attempted::Got(tried, inside, after) = sampling::attempt(endpoints, zero, words, at)
+        else {
             fill::clear_u64(output);
             return Answer { number: 23, place };
         };
-        let told = if sampling::inside(endpoints, tried) {
-            Told::Yes { place: tried.place }
+        let passed = if inside {
+            true
         } else {
-            sampling::judge_edge(parameters, zero, endpoints, heights, curve, tried, words)
+            sampling::passes_edge(
+                parameters.standard_deviation,
+                zero,
+                endpoints,
+                heights,
+                curve,
+                tried.layer,
+                tried.magnitude,
+                words,
+                tried.place,
+            )
         };
-        match told {
-            Told::Yes { place: passed } => {
-                output[i] = encode::encode_modular(
-                    tried.positive,
-                    tried.magnitude as u64,
-                    minus_one,
-                );
-                i += 1;
-                at = passed;
-            }
-            Told::No { place: failed } => {
-                at = failed;
-            }
-            Told::Short => {
-                fill::clear_u64(output);
-                return Answer { number: 23, place };
-            }
-        }
+        output[i] = encode::encode_modular(tried.positive, tried.magnitude as u64, minus_one);
+        i += passed as usize;
+        at = after;
     }
     Answer {
         number: 0,

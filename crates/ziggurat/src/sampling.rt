@@ -1,17 +1,16 @@
 // A try, as in `sample`: a proposal and its judging. Nothing here knows the type of the output.
 use crate::fringe;
-use distr::gaussian_parameters::GaussianParameters;
 use distr::threshold::Threshold;
 use words::Taken;
-use words::Told;
 ghost use mathlib.Core.Path.{_≡_};
-ghost use Prim.Native.Nat.{_≤_};
+ghost use Prim.Native.Nat.{_+_, _≤_};
 ghost use lib.Dec.{T};
 ghost use lib.ListN.{length, drop};
+ghost use Rattle.distr.specs.Words.{got};
 ghost use Rattle.distr.specs.Layered.{layerTables, zeroThreshold};
 ghost use Rattle.words.specs.Reading.{thresholdValue};
 ghost use Rattle.ziggurat.specs.Tables.{tables, layerSizes};
-ghost use Rattle.ziggurat.specs.Sampling.{Proposes, OnLayer, isInside, Judges, judgeEdge};
+ghost use Rattle.ziggurat.specs.Sampling.{Proposes, OnLayer, OnTables, isInside, edgeWords, Attempts, judgeEdge};
 
 // A proposed magnitude on a layer, with its sign and the place after its words.
 pub struct Trial {
@@ -27,9 +26,15 @@ pub enum Proposal {
     Short,
 }
 
+// A proposal that can be judged: whether it is inside the layer above, and the place after the words of its judging.
+pub enum Attempted {
+    Got(Trial, bool, usize),
+    Short,
+}
+
 // A layer, a coin for the sign, and a magnitude up to the layer's endpoint. The number of layers is a power of two, so the choice of the layer
 // masks a word and skips none. The coin is compared and not branched on.
-pub(crate) fn propose(endpoints: &[u64], words: &[u32], place: usize) -> Proposal
+fn propose(endpoints: &[u64], words: &[u32], place: usize) -> Proposal
     requires { ⌜ T (layerSizes (now endpoints)) ⌝ }
     requires { ⌜ place ≤ length (now words) ⌝ }
     ensures { λ r. ⌜ Proposes (now (endpoints .entry)) (now (words .entry)) place r ⌝ }
@@ -54,58 +59,75 @@ pub(crate) fn propose(endpoints: &[u64], words: &[u32], place: usize) -> Proposa
     })
 }
 
-// Whether a trial is inside the layer above, where it passes without a word. The endpoints are compared as integers.
-pub(crate) fn inside(endpoints: &[u64], tried: Trial) -> bool
-    requires { ⌜ OnLayer (now endpoints) (tried .layer) (tried .magnitude) ⌝ }
-    ensures { λ r. ⌜ r ≡ isInside (now (endpoints .entry)) (tried .layer) (tried .magnitude) ⌝ }
+// Whether a magnitude is inside the layer above, where it passes without a word. The endpoints are compared as integers.
+fn inside(endpoints: &[u64], layer: usize, magnitude: u32) -> bool
+    requires { ⌜ OnLayer (now endpoints) layer magnitude ⌝ }
+    ensures { λ r. ⌜ r ≡ isInside (now (endpoints .entry)) layer magnitude ⌝ }
 {
-    let layer = tried.layer;
-    (tried.magnitude as u64 <= endpoints[layer - 1]) & (0 < tried.magnitude)
+    (magnitude as u64 <= endpoints[layer - 1]) & (0 < magnitude)
 }
 
-// Whether a trial passes that is not inside the layer above: 0 by its threshold, another on the fringe by a word.
-pub(crate) fn judge_edge(
-    parameters: GaussianParameters,
+// How many words the judging reads of a magnitude that is not inside: one on the fringe; for 0 the two of its threshold, none where it is full.
+fn edge_words(zero: Threshold, magnitude: u32) -> usize
+    ensures { λ r. ⌜ r ≡ edgeWords (thresholdValue zero) magnitude ⌝ }
+{
+    if magnitude != 0 {
+        return 1;
+    }
+    if zero.full {
+        return 0;
+    }
+    2
+}
+
+// A proposal, and whether the words that its judging reads are there. Inside the layer above it reads none, and a branch tells so: where the
+// next try begins is then known before the division that gave the magnitude is done.
+pub(crate) fn attempt(endpoints: &[u64], zero: Threshold, words: &[u32], place: usize) -> Attempted
+    requires { ⌜ T (layerSizes (now endpoints)) ⌝ }
+    requires { ⌜ place ≤ length (now words) ⌝ }
+    ensures { λ r. ⌜ Attempts (now (endpoints .entry)) (thresholdValue zero) (now (words .entry)) place r ⌝ }
+{
+    let Proposal::Got(tried) = propose(endpoints, words, place) else {
+        return Attempted::Short;
+    };
+    let next = tried.place;
+    if inside(endpoints, tried.layer, tried.magnitude) {
+        return Attempted::Got(tried, true, next);
+    }
+    let taken = edge_words(zero, tried.magnitude);
+    if words.len() - next < taken {
+        return Attempted::Short;
+    }
+    Attempted::Got(tried, false, next + taken)
+}
+
+// Whether a magnitude passes that is not inside the layer above, by the words at a place: 0 by its threshold, another by the test on the fringe.
+pub(crate) fn passes_edge(
+    deviation: f64,
     zero: Threshold,
     endpoints: &[u64],
     heights: &[f64],
     curve: &[f64],
-    tried: Trial,
+    layer: usize,
+    magnitude: u32,
     words: &[u32],
-) -> Told
-    requires { ⌜ T (layerTables (parameters .«maximum_magnitude») (tables (now endpoints) (now heights) (now curve))) ⌝ }
+    place: usize,
+) -> bool
+    requires { ⌜ OnTables (tables (now endpoints) (now heights) (now curve)) layer magnitude ⌝ }
     requires { ⌜ thresholdValue zero ≡ zeroThreshold (tables (now endpoints) (now heights) (now curve)) ⌝ }
-    requires { ⌜ OnLayer (now endpoints) (tried .layer) (tried .magnitude) ⌝ }
-    requires { ⌜ tried .place ≤ length (now words) ⌝ }
-    ensures { λ r. ⌜ Judges (now (words .entry)) (tried .place) r
-        (judgeEdge (parameters .«standard_deviation») (tables (now (endpoints .entry)) (now (heights .entry)) (now (curve .entry)))
-        (tried .layer) (tried .magnitude) (drop (tried .place) (now (words .entry)))) ⌝ }
+    requires { ⌜ place + edgeWords (thresholdValue zero) magnitude ≤ length (now words) ⌝ }
+    ensures { λ r. ⌜ judgeEdge deviation (tables (now (endpoints .entry)) (now (heights .entry)) (now (curve .entry))) layer magnitude
+        (drop place (now (words .entry))) ≡ got r (drop (place + edgeWords (thresholdValue zero) magnitude) (now (words .entry))) ⌝ }
 {
-    let layer = tried.layer;
-    let magnitude = tried.magnitude;
     if magnitude == 0 {
-        return words::bernoulli(words, tried.place, zero);
+        if zero.full {
+            return true;
+        }
+        return words[place] as u64 + words[place + 1] as u64 * 0x1_0000_0000 < zero.below;
     }
-    let Taken::Got {
-        value: word,
-        place: next,
-    } = words::next_u32(words, tried.place)
-    else {
-        return Told::Short;
-    };
-    let pdf = curve[magnitude as usize];
     let here = fringe::layer_at(endpoints, heights, layer);
-    if fringe::accepts(
-        parameters.standard_deviation,
-        here,
-        magnitude,
-        pdf,
-        word as u32,
-    ) {
-        Told::Yes { place: next }
-    } else {
-        Told::No { place: next }
-    }
+    let pdf = curve[magnitude as usize];
+    fringe::accepts(deviation, here, magnitude, pdf, words[place])
 }
 
 // The threshold by which magnitude 0 passes: that of 0.5 over the first height. Zero is shared by both signs.

@@ -1,12 +1,11 @@
 // The layered draw of signed coefficients.
 use crate::sampling;
-use crate::sampling::Proposal;
+use crate::sampling::Attempted;
 use crate::tables;
 use distr::answer::Answer;
 use distr::gaussian_parameters::GaussianParameters;
 use distr::threshold::Threshold;
 use gaussian_core::encode;
-use words::Told;
 ghost use mathlib.Core.Path.{_≡_};
 ghost use Prim.Native.Nat.{_≤_};
 ghost use lib.Dec.{T};
@@ -16,8 +15,9 @@ ghost use Rattle.distr.specs.Draw.{outcome, settled};
 ghost use Rattle.words.specs.Reading.{thresholdValue};
 ghost use Rattle.ziggurat.specs.Tables.{tables, layeredDraw};
 
-// Tries, and stores each coefficient that passes. Each try reads a word or lacks one, so the words left are a measure. What was stored is
-// cleared where the words run out.
+// Tries, and stores each trial's coefficient. One that is rejected is not counted, and the next is written over it: whether a trial passes is
+// added and not branched on. Each try reads a word or lacks one, so the words left are a measure. What was stored is cleared where the words
+// run out.
 fn fill_i64(
     output: &mut [i64],
     parameters: GaussianParameters,
@@ -40,29 +40,29 @@ fn fill_i64(
     let mut i: usize = 0;
     let mut at = place;
     while i < n {
-        let Proposal::Got(tried) = sampling::propose(endpoints, words, at) else {
+        let Attempted::Got(tried, inside, after) = sampling::attempt(endpoints, zero, words, at)
+        else {
             fill::clear_i64(output);
             return Answer { number: 23, place };
         };
-        let told = if sampling::inside(endpoints, tried) {
-            Told::Yes { place: tried.place }
+        let passed = if inside {
+            true
         } else {
-            sampling::judge_edge(parameters, zero, endpoints, heights, curve, tried, words)
+            sampling::passes_edge(
+                parameters.standard_deviation,
+                zero,
+                endpoints,
+                heights,
+                curve,
+                tried.layer,
+                tried.magnitude,
+                words,
+                tried.place,
+            )
         };
-        match told {
-            Told::Yes { place: passed } => {
-                output[i] = encode::encode_signed(tried.positive, tried.magnitude as u64);
-                i += 1;
-                at = passed;
-            }
-            Told::No { place: failed } => {
-                at = failed;
-            }
-            Told::Short => {
-                fill::clear_i64(output);
-                return Answer { number: 23, place };
-            }
-        }
+        output[i] = encode::encode_signed(tried.positive, tried.magnitude as u64);
+        i += passed as usize;
+        at = after;
     }
     Answer {
         number: 0,

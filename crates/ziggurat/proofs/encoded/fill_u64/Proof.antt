@@ -1,121 +1,54 @@
--- `encoded::fill_u64` tries and stores: what is stored, with what is left to read behind it, is what the whole reading gives. The measure is the
--- words left, of which each try takes one.
-use mathlib.Core.Path.{_≡_, refl, sym, ap, _∙_}
-use mathlib.Core.List.{List}
-use mathlib.Core.Logic.{⊎-elim}
-use Prim.Native.Nat.{ℕ, _+_, _-_, _<_, _≤_}
+-- `encoded::fill_u64` tries and stores, turn by turn. The measure is the words left, of which each try takes one.
+use mathlib.Core.Path.{refl, _∙_}
+use mathlib.Core.List.{map}
+use mathlib.Core.Logic.{⊎-map}
+use Prim.Native.Nat.{ℕ, _-_}
 use native.Mathlib.Omega.{arith}
 use borrow.Author.Needs.{needs}
-use lib.ListN.{length, drop, set, replicate}
-use lib.Ieee.{Float}
+use lib.ListN.{length}
 use Rattle.distr.specs.Encoding.{encodeWith}
-use Rattle.distr.specs.Gaussian.{signed}
-use Rattle.distr.specs.Layered.{Layers, judge, layeredOne}
-use Rattle.words.specs.declared.Told.{Told}
-use Rattle.words.specs.declared.Told.the-variants.{Yes, No, Short as NotTold}
-use Rattle.words.proofs.Places.{place-of}
-use Rattle.ziggurat.specs.declared.sampling.Trial.{Trial}
-use Rattle.ziggurat.specs.declared.sampling.Proposal.the-variants.{Got, Short}
+use Rattle.distr.specs.Layered.{layeredOne}
 use Rattle.ziggurat.specs.Tables.{tables}
-use Rattle.ziggurat.specs.Sampling.{Proposes, Judges}
-use Rattle.ziggurat.proofs.LayerTables.{sizes}
-use Rattle.ziggurat.proofs.Filling.{Filled, filled-none, filled-all, settled-got, settled-short}
-use Rattle.ziggurat.proofs.Passing.{inside-judges, edge-judges}
-use Rattle.ziggurat.proofs.Turning.{not-proposed, not-judged, kept-turn, rejected-turn}
+use Rattle.ziggurat.proofs.Filling.{Filled, filled-none}
+use Rattle.ziggurat.proofs.Turning.{Given, given, Turn, begin, asked, full, cut, edge, Turned, turned}
 use Rattle.ziggurat.proofs.encoded.fill_u64.Statement.{statement}
 use Rattle.ziggurat.proofs.encoded.fill_u64.Tie as tie
 
 abbrev Inv-loop : tie.InvT-loop
 Inv-loop output₀ minus-one parameters zero endpoints heights curve words place n i₀ at₀ output i at =
-    (i ≤ length output₀)
-    × Filled (encodeWith minus-one) (layeredOne (parameters .«standard_deviation») (tables endpoints heights curve)) words place output₀ i at output
+    Filled (encodeWith minus-one) (layeredOne (parameters .«standard_deviation») (tables endpoints heights curve)) words place output₀ i at output
 
 abbrev μ-loop : tie.MeasureT-loop
 μ-loop output₀ minus-one parameters zero endpoints heights curve words place n i₀ at₀ output i at = length words - at
 
--- a turn up to its trial
-abbrev start : tie.After-tried Inv-loop μ-loop → tie.Start Inv-loop μ-loop
-start c = c .before .before .before .before .before .before .before .before .before .before
+abbrev lent : tie.At-loop Inv-loop μ-loop → Given ℕ
+lent l =
+    let s = l .before .before .before .before .before .before in
+    let a = s .args in
+    given (map (encodeWith (a .minus-one))) (encodeWith (a .minus-one)) (λ cs. refl) (a .parameters) (a .zero)
+    (tables (a .endpoints .now) (a .heights .now) (a .curve .now)) (a .words .now) (a .place) (a .output .now) (s .pre)
 
-abbrev deviation : tie.Start Inv-loop μ-loop → Float
-deviation s = s .args .parameters .«standard_deviation»
+abbrev turn : (c : tie.After-attempt Inv-loop μ-loop) → Turn (lent (c .before .before))
+turn c =
+    let l = c .before .before .loop in
+    begin (lent (c .before .before)) (l .i) (l .at) (l .output) (l .inv) (c .before .loop-test .taken) (c .attempt .result) (c .attempt .ensures)
 
-abbrev layers : tie.Start Inv-loop μ-loop → Layers
-layers s = tables (s .args .endpoints .now) (s .args .heights .now) (s .args .curve .now)
-
-abbrev tried : tie.After-tried Inv-loop μ-loop → Trial
-tried c = c .tried .given .0 .0
-
-abbrev turn : tie.After-tried Inv-loop μ-loop → tie.At-loop Inv-loop μ-loop
-turn c = c .before .before .before .before
-
-proposed : (c : tie.After-tried Inv-loop μ-loop)
-    → Proposes (start c .args .endpoints .now) (start c .args .words .now) (turn c .loop .at) (Got (tried c))
-proposed c = rw (c .tried .given .1) at (c .before .before .propose .ensures)
-
-abbrev Holds : tie.Start Inv-loop μ-loop → ℕ → ℕ → List ℕ → Type 0
-Holds s = Filled (encodeWith (s .args .minus-one)) (layeredOne (deviation s) (layers s)) (s .args .words .now) (s .args .place) (s .args .output .now)
-
--- what is told of it
-abbrev Told-of : tie.After-tried Inv-loop μ-loop → Told → Type 0
-Told-of c r =
-    let s = start c in
-    let m = tried c in
-    Judges (s .args .words .now) (m .place) r (judge (deviation s) (layers s) (m .layer) (m .magnitude) (drop (m .place) (s .args .words .now)))
-
-judged : (c : tie.Joined1 Inv-loop μ-loop) → Told-of (c .before .before .before) (c .if1 .told)
-judged c =
-    let t = c .before .before .before in
-    let s = start t in
-    let on = proposed t .sound .0 in
-    ⊎-elim
-    (λ w. rw (w .1)
-    (inside-judges (deviation s) (s .args .parameters .«maximum_magnitude») (layers s) (s .pre .0) (tried t .layer) (tried t .magnitude) on
-    (s .args .words .now) (tried t .place) (sym (c .before .inside .ensures) ∙ w .0 .taken) (proposed t .sound .2)))
-    (λ w. rw (w .2)
-    (edge-judges (deviation s) (s .args .parameters .«maximum_magnitude») (layers s) (s .pre .0) (tried t .layer) (tried t .magnitude) on
-    (s .args .words .now) (tried t .place) (w .1 .result) (sym (c .before .inside .ensures) ∙ w .0 .left) (w .1 .ensures)))
-    (c .if1 .came)
-
-kept : (c : tie.After-told Inv-loop μ-loop)
-    → let t = c .before .before .before .before .before in
-    let l = turn t .loop in
-    (l .at < c .told .given .0 .0)
-    × Holds (start t) (l .i + 1) (c .told .given .0 .0)
-    (set (l .output) (l .i) (encodeWith (start t .args .minus-one) (signed (tried t .positive) (tried t .magnitude))))
-kept c =
-    let t = c .before .before .before .before .before in
-    let s = start t in
-    let j : Told-of t (Yes (c .told .given .0 .0)) = rw (c .told .given .1) at (judged (c .before .before)) in
-    kept-turn (encodeWith (s .args .minus-one)) (deviation s) (layers s) (s .args .words .now) (s .args .place) (s .args .output .now)
-    (turn t .loop .i) (turn t .loop .at) (turn t .loop .output) (t .before .before .before .loop-test .taken) (turn t .loop .inv .1)
-    (tried t) (proposed t) (c .told .given .0 .0) j
-
-rejected : (c : tie.After-told2 Inv-loop μ-loop)
-    → let t = c .before .before .before .before .before in
-    let l = turn t .loop in
-    (l .at < c .told2 .given .0 .0) × Holds (start t) (l .i) (c .told2 .given .0 .0) (l .output)
-rejected c =
-    let t = c .before .before .before .before .before in
-    let s = start t in
-    let j : Told-of t (No (c .told2 .given .0 .0)) = rw (c .told2 .given .1) at (judged (c .before .before)) in
-    rejected-turn (encodeWith (s .args .minus-one)) (deviation s) (layers s) (s .args .words .now) (s .args .place) (s .args .output .now)
-    (turn t .loop .i) (turn t .loop .at) (turn t .loop .output) (t .before .before .before .loop-test .taken) (turn t .loop .inv .1)
-    (tried t) (proposed t) (c .told2 .given .0 .0) j
-
--- what is stored is the residue
+-- what the turn stores is the residue
 stored : (c : tie.After-encode-modular Inv-loop μ-loop)
-    → let t = c .before .before .before .before .before .before .before .before in
-    c .encode-modular .result ≡ encodeWith (start t .args .minus-one) (signed (tried t .positive) (tried t .magnitude))
-stored c = c .encode-modular .ensures
+    → let t = c .before .before .before .before in
+    Turned (turn (t .before .before)) (c .before .before .if1 .passed) (t .tried .given .0 .1 .1 .0) (c .encode-modular .result)
+stored c =
+    let j = c .before .before in
+    let t = j .before .before in
+    turned (turn (t .before .before)) (t .tried .given .1) (j .if1 .passed)
+    (⊎-map (λ w. (w .0 .taken, w .1)) (λ w. (w .0 .left, w .1 .result, w .1 .ensures, w .2)) (j .if1 .came)) _
+    (c .encode-modular .ensures)
 
 loop-holds : tie.Need-loop-holds Inv-loop μ-loop
-loop-holds c = (omega arith, filled-none _ _ _ _ _ (c .before .before .before .before .before .pre .1 .1))
+loop-holds c = filled-none _ _ _ _ _ (c .before .before .before .before .before .pre .1 .1)
 
-propose-requires : tie.Need-propose-requires Inv-loop μ-loop
-propose-requires c κs =
-    let s = c .before .before .before .before .before .before .before in
-    (sizes (s .args .parameters .«maximum_magnitude») (layers s) (s .pre .0), c .before .loop .inv .1 .within)
+attempt-requires : tie.Need-attempt-requires Inv-loop μ-loop
+attempt-requires c κs = asked (lent (c .before)) _ _ _ (c .before .loop .inv)
 
 enum-known-tried : tie.Need-enum-known-tried Inv-loop μ-loop
 enum-known-tried c = search needs
@@ -124,97 +57,46 @@ enum-told : tie.Need-enum-told Inv-loop μ-loop
 enum-told c = search needs
 
 clear-u64-requires : tie.Need-clear-u64-requires Inv-loop μ-loop
-clear-u64-requires c κs = tt
+clear-u64-requires c κs = search needs
 
 same-length : tie.Need-same-length Inv-loop μ-loop
-same-length c = c .before .before .clear-u64 .kept .0 ∙ c .before .before .before .before .before .before .before .before .loop .inv .1 .sized
+same-length c = c .before .before .clear-u64 .kept .0 ∙ turn (c .before .before .before .before .before .before) .held .sized
 
 returns : tie.Need-returns Inv-loop μ-loop
-returns c =
-    let head = c .before .before .before .before .before .before .before .before in
-    let s = head .before .before .before .before .before .before in
-    let p : Proposes (s .args .endpoints .now) (s .args .words .now) (head .loop .at) Short =
-    rw (c .before .before .before .before .enum-told .given .1) at (c .before .before .before .before .before .before .propose .ensures) in
-    settled-short _ (encodeWith (s .args .minus-one)) (λ cs. refl) _ _ _ _ _
-    (not-proposed (encodeWith (s .args .minus-one)) (deviation s) (layers s) (s .args .words .now) (s .args .place) (s .args .output .now)
-    (head .loop .i) (head .loop .at) (head .loop .output)
-    (c .before .before .before .before .before .before .before .loop-test .taken) (head .loop .inv .1) p)
-    (c .before .before .clear-u64 .ensures ∙ ap (λ (m : ℕ). replicate m 0) (head .loop .inv .1 .sized))
+returns c = cut (turn (c .before .before .before .before .before .before)) (c .before .before .before .before .enum-told .given .1) _ (c .before .before .clear-u64 .ensures)
 
-inside-requires : tie.Need-inside-requires Inv-loop μ-loop
-inside-requires c κs = proposed (c .before) .sound .0
-
-judge-edge-requires : tie.Need-judge-edge-requires Inv-loop μ-loop
-judge-edge-requires c κs =
-    let t = c .before .before .before in
-    let s = start t in
-    let p = proposed t .sound in
-    (s .pre .0, (s .pre .1 .0, (p .0, p .2)))
-
-enum-known-told : tie.Need-enum-known-told Inv-loop μ-loop
-enum-known-told c = search needs
+passes-edge-requires : tie.Need-passes-edge-requires Inv-loop μ-loop
+passes-edge-requires c κs = edge (turn (c .before .before .before .before)) (c .before .before .tried .given .1) (c .if1 .left)
 
 cast-encode-modular : tie.Need-cast-encode-modular Inv-loop μ-loop
 cast-encode-modular c = search needs
 
 encode-modular-requires : tie.Need-encode-modular-requires Inv-loop μ-loop
-encode-modular-requires c κs = tt
+encode-modular-requires c κs = search needs
 
 mul-output : tie.Need-mul-output Inv-loop μ-loop
 mul-output c = omega arith
 
 slice-write-output : tie.Need-slice-write-output Inv-loop μ-loop
-slice-write-output c = omega (arith, c .before .before .before .before .before .before .before .before .before .before .before .before .loop .inv .1 .sized)
+slice-write-output c = omega (arith, turn (c .before .before .before .before .before .before) .held .sized)
+
+cast-i : tie.Need-cast-i Inv-loop μ-loop
+cast-i c = search needs
 
 add-i : tie.Need-add-i Inv-loop μ-loop
-add-i c = omega arith
+add-i c = omega (arith, stored c .1 .fits)
 
 loop-less : tie.Need-loop-less Inv-loop μ-loop
-loop-less c = omega (arith, kept (c .before .before .before) .0, kept (c .before .before .before) .1 .within)
+loop-less c = omega (arith, stored c .0, stored c .1 .within)
 
 loop-again : tie.Need-loop-again Inv-loop μ-loop
-loop-again c = (omega arith, rw (stored c) (kept (c .before .before .before) .1))
-
-enum-known-told-2 : tie.Need-enum-known-told-2 Inv-loop μ-loop
-enum-known-told-2 c = search needs
-
-loop-less-2 : tie.Need-loop-less-2 Inv-loop μ-loop
-loop-less-2 c = omega (arith, rejected (c .before) .0, rejected (c .before) .1 .within)
-
-loop-again-2 : tie.Need-loop-again-2 Inv-loop μ-loop
-loop-again-2 c = (c .before .before .before .before .before .before .before .before .before .before .loop .inv .0, rejected (c .before) .1)
-
-enum-told-2 : tie.Need-enum-told-2 Inv-loop μ-loop
-enum-told-2 c = search needs
-
-clear-u64-requires-2 : tie.Need-clear-u64-requires-2 Inv-loop μ-loop
-clear-u64-requires-2 c κs = tt
+loop-again c = stored c .1
 
 same-length-2 : tie.Need-same-length-2 Inv-loop μ-loop
-same-length-2 c = c .before .before .clear-u642 .kept .0 ∙ turn (c .before .before .before .before .before .before .before .before .before) .loop .inv .1 .sized
+same-length-2 c = c .before .loop .inv .sized
 
 returns-2 : tie.Need-returns-2 Inv-loop μ-loop
-returns-2 c =
-    let t = c .before .before .before .before .before .before .before .before .before in
-    let s = start t in
-    let j : Told-of t NotTold = rw (c .before .before .before .before .enum-told2 .given .1) at (judged (c .before .before .before .before .before .before)) in
-    settled-short _ (encodeWith (s .args .minus-one)) (λ cs. refl) _ _ _ _ _
-    (not-judged (encodeWith (s .args .minus-one)) (deviation s) (layers s) (s .args .words .now) (s .args .place) (s .args .output .now)
-    (turn t .loop .i) (turn t .loop .at) (turn t .loop .output) (t .before .before .before .loop-test .taken) (turn t .loop .inv .1)
-    (tried t) (proposed t) j)
-    (c .before .before .clear-u642 .ensures ∙ ap (λ (m : ℕ). replicate m 0) (turn t .loop .inv .1 .sized))
-
-same-length-3 : tie.Need-same-length-3 Inv-loop μ-loop
-same-length-3 c = c .before .loop .inv .1 .sized
-
-returns-3 : tie.Need-returns-3 Inv-loop μ-loop
-returns-3 c =
-    let s = c .before .before .before .before .before .before .before in
-    let l = c .before .loop in
-    settled-got _ (encodeWith (s .args .minus-one)) (λ cs. refl) _ _ _ _ _ _ _ (place-of (s .args .words .now) (l .at) (l .inv .1 .within))
-    (filled-all (encodeWith (s .args .minus-one)) (layeredOne (deviation s) (layers s)) (s .args .words .now) (s .args .place) (s .args .output .now)
-    (l .i) (l .at) (l .output)
-    (l .inv .0) (c .loop-test .left) (l .inv .1))
+returns-2 c = full (lent (c .before)) _ _ _ (c .before .loop .inv) (c .loop-test .left)
 
 pub fill-u64-spec : {M : Type 1} → statement M
 fill-u64-spec =
@@ -223,28 +105,20 @@ fill-u64-spec =
     Inv-loop
     μ-loop
     loop-holds
-    propose-requires
+    attempt-requires
     enum-known-tried
     enum-told
     clear-u64-requires
     same-length
     returns
-    inside-requires
-    judge-edge-requires
-    enum-known-told
+    passes-edge-requires
     cast-encode-modular
     encode-modular-requires
     mul-output
     slice-write-output
+    cast-i
     add-i
     loop-less
     loop-again
-    enum-known-told-2
-    loop-less-2
-    loop-again-2
-    enum-told-2
-    clear-u64-requires-2
     same-length-2
-    returns-2
-    same-length-3
-    returns-3)
+    returns-2)

@@ -1,17 +1,16 @@
 -- `tables::falls` tests each element against the one before it: `ok` and the test of what is left stand for the test of the whole.
-use mathlib.Core.Path.{_≡_, refl}
-use mathlib.Core.Bool.{_&&_}
-use Prim.Native.Nat.{_-_, _<_}
+use mathlib.Core.Path.{refl}
+use Prim.Native.Nat.{_-_}
 use native.Mathlib.Omega.{arith}
-use lib.ListN.{length, drop}
+use lib.ListN.{length}
 use lib.Ieee.{lt, nan}
 use Rattle.distr.specs.Layered.{falls}
-use Rattle.ziggurat.proofs.Judging.{pair-more, pair-all}
+use Rattle.ziggurat.proofs.Judging.{Paired, pair-more, pair-all}
 use Rattle.ziggurat.proofs.tables.falls.Statement.{statement}
 use Rattle.ziggurat.proofs.tables.falls.Tie as tie
 
 abbrev Inv-loop : tie.InvT-loop
-Inv-loop xs ok₀ i₀ ok i = (0 < i) × (ok && falls (drop (i - 1) xs) ≡ falls xs)
+Inv-loop xs ok₀ i₀ ok i = Paired falls ok i xs
 
 abbrev μ-loop : tie.MeasureT-loop
 μ-loop xs ok₀ i₀ ok i = length xs - i
@@ -43,19 +42,12 @@ loop-less c = omega arith
 loop-again : tie.Need-loop-again Inv-loop μ-loop
 unfolding falls
 loop-again c =
-    let a = c .before .before .before .before .args in
-    let turn = c .before .before .before .loop in (
-      omega arith,
-      pair-more falls refl (λ a b. lt b a) (λ x y xs. refl) (turn .ok) (turn .i) (a .xs .now) nan
-          (turn .inv .0) (c .before .before .loop-test .taken) (turn .inv .1),
-    )
+    let l = c .before .before .before .loop in
+    pair-more falls refl (λ a b. lt b a) (λ x y xs. refl) (l .ok) _ _ nan (c .before .before .loop-test .taken) (l .inv)
 
 returns : tie.Need-returns Inv-loop μ-loop
 unfolding falls
-returns c =
-    let a = c .before .before .args in
-    let turn = c .before .loop in
-    pair-all falls refl (λ x. refl) (turn .ok) (turn .i) (a .xs .now) (c .loop-test .left) (turn .inv .1)
+returns c = pair-all falls refl (λ x. refl) _ _ _ (c .loop-test .left) (c .before .loop .inv)
 
 pub falls-spec : {M : Type 1} → statement M
 falls-spec =

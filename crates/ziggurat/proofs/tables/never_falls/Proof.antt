@@ -1,17 +1,16 @@
 -- `tables::never_falls` tests each element against the one before it: `ok` and the test of what is left stand for the test of the whole.
-use mathlib.Core.Path.{_≡_, refl}
-use mathlib.Core.Bool.{_&&_}
-use Prim.Native.Nat.{_-_, _<_}
+use mathlib.Core.Path.{refl}
+use Prim.Native.Nat.{_-_}
 use native.Mathlib.Omega.{arith}
-use lib.ListN.{length, drop}
+use lib.ListN.{length}
 use lib.Dec.{leb}
 use Rattle.distr.specs.Gaussian.{neverFalls}
-use Rattle.ziggurat.proofs.Judging.{pair-more, pair-all}
+use Rattle.ziggurat.proofs.Judging.{Paired, pair-more, pair-all}
 use Rattle.ziggurat.proofs.tables.never_falls.Statement.{statement}
 use Rattle.ziggurat.proofs.tables.never_falls.Tie as tie
 
 abbrev Inv-loop : tie.InvT-loop
-Inv-loop xs ok₀ i₀ ok i = (0 < i) × (ok && neverFalls (drop (i - 1) xs) ≡ neverFalls xs)
+Inv-loop xs ok₀ i₀ ok i = Paired neverFalls ok i xs
 
 abbrev μ-loop : tie.MeasureT-loop
 μ-loop xs ok₀ i₀ ok i = length xs - i
@@ -43,18 +42,12 @@ loop-less c = omega arith
 loop-again : tie.Need-loop-again Inv-loop μ-loop
 unfolding neverFalls
 loop-again c =
-    let a = c .before .before .before .before .args in
-    let turn = c .before .before .before .loop in (
-      omega arith,
-      pair-more neverFalls refl leb (λ x y xs. refl) (turn .ok) (turn .i) (a .xs .now) 0 (turn .inv .0) (c .before .before .loop-test .taken) (turn .inv .1),
-    )
+    let l = c .before .before .before .loop in
+    pair-more neverFalls refl leb (λ x y xs. refl) (l .ok) _ _ 0 (c .before .before .loop-test .taken) (l .inv)
 
 returns : tie.Need-returns Inv-loop μ-loop
 unfolding neverFalls
-returns c =
-    let a = c .before .before .args in
-    let turn = c .before .loop in
-    pair-all neverFalls refl (λ x. refl) (turn .ok) (turn .i) (a .xs .now) (c .loop-test .left) (turn .inv .1)
+returns c = pair-all neverFalls refl (λ x. refl) _ _ _ (c .loop-test .left) (c .before .loop .inv)
 
 pub never-falls-spec : {M : Type 1} → statement M
 never-falls-spec =
