@@ -1,7 +1,7 @@
 -- The difference of two counts: its sign, its size and its encoding.
 use mathlib.Core.Path.{_≡_, refl, sym, ap, _∙_}
 use mathlib.Core.Bool.{Bool, true, false}
-use Prim.Native.Nat.{ℕ, zero, suc, _-_, _<_, _≤_}
+use Prim.Native.Nat.{ℕ, zero, suc, _+_, _-_, _<_, _≤_}
 use native.Mathlib.Nat.{add-zero, sub-zero}
 use native.Mathlib.Omega.{arith}
 use borrow.Author.Tests.{lt-ltb, le-ltb, leb-true, leb-false}
@@ -19,6 +19,18 @@ minus-pos x (suc y) h = rw (le-ltb x (suc y) h)
 pub minus-neg : (x y : ℕ) → x < y → pos x -ℤ pos y ≡ negsuc (y - x - 1)
 minus-neg x zero h = absurd (omega arith)
 minus-neg x (suc y) h = rw (lt-ltb x (suc y) h) (ap negsuc (omega arith))
+
+-- equal where the counts are equally far apart
+pub minus-same : (x y a b : ℕ) → x + b ≡ a + y → pos x -ℤ pos y ≡ pos a -ℤ pos b
+minus-same x y a b e = go (leb y x) refl
+  where
+    go : (t : Bool) → leb y x ≡ t → pos x -ℤ pos y ≡ pos a -ℤ pos b
+    go true p =
+        let h : y ≤ x = leb-true y x p in
+        rw (minus-pos x y h, minus-pos a b (omega arith)) (ap pos (omega arith))
+    go false p =
+        let h : x < y = leb-false y x p in
+        rw (minus-neg x y h, minus-neg a b (omega arith)) (ap negsuc (omega arith))
 
 -- no larger than the counts
 pub minus-small : (x y k : ℕ) → x < k → y < k → mag (pos x -ℤ pos y) < k

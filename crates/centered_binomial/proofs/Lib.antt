@@ -1,4 +1,3 @@
 pub mod Differences
+pub mod Counting
 pub mod Samplers
-pub mod Values
-pub mod Numbers

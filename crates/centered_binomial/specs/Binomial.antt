@@ -2,15 +2,12 @@
 use Prim.Native.Nat.{ℕ, _+_, _*_, _-_, _^_, _≤_}
 use mathlib.Core.Path.{_≡_}
 use mathlib.Core.Bool.{Bool, cond, _&&_}
-use mathlib.Core.List.{List, [], _∷_, _++_}
-use lib.Dec.{ltb, eqb}
-use lib.ListN.{length, drop}
+use mathlib.Core.List.{List}
+use lib.Dec.{eqb}
+use lib.ListN.{length}
 use lib.IntN.{ℤ}
 use Rattle.distr.specs.declared.error_distribution.ErrorDistribution.the-variants.{CenteredBinomial as BinomialOf}
-use Rattle.distr.specs.Words.{Read, got, short}
-use Rattle.distr.specs.Rule.{readBy}
-use Rattle.distr.specs.Making.{refuse, errorNumber}
-use Rattle.distr.specs.Numbers.{firstOf, stateNumbers, tooLong}
+use Rattle.distr.specs.Making.{errorNumber}
 use Rattle.distr.specs.CenteredBinomial.{centeredBinomial}
 use Rattle.distr.specs.Draw.{Outcome, ruleDraw}
 use Rattle.centered_binomial.specs.declared.CenteredBinomial.{CenteredBinomial}
@@ -37,20 +34,6 @@ abbrev pub binomialDraw : {A : Type 0} → (List ℤ → List A) → CenteredBin
 binomialDraw write s words place out =
     cond (isMadeBinomial s) (ruleDraw write 0 (centeredBinomial (s .eta) (length out)) words place out)
     (record { number = 21; place = place; output = out })
-
--- The number of a draw of n coefficients, each of two words, from a place of `count` words.
-unfoldable pub drawNumber : CenteredBinomial → ℕ → ℕ → ℕ → ℕ
-drawNumber s count place n =
-    firstOf (stateNumbers (isMadeBinomial s) count place ++ (tooLong n ∷ refuse (ltb (count - place) (2 * n)) 23 ∷ []))
-
--- The coefficients of a reading that lacks no word.
-unfoldable pub valuesOf : Read (List ℤ) → List ℤ
-valuesOf (got cs rest) = cs
-valuesOf short = []
-
--- The n coefficients that the words give from a place on.
-abbrev pub binomialValues : ℕ → ℕ → List ℕ → ℕ → List ℤ
-binomialValues eta n words place = valuesOf (readBy (centeredBinomial eta n) (drop place words))
 
 -- What the loops start from: the parts fit a word, the mask is eta ones, and the words for n coefficients are there.
 pub record Ready (eta mask n count place : ℕ) : Type 0 where

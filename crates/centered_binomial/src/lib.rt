@@ -3,12 +3,14 @@ use distr::answer::Answer;
 ghost use Prim.Native.Nat.{_+_, _*_, _-_, _^_, _<_, _≤_};
 ghost use mathlib.Core.Path.{_≡_};
 ghost use mathlib.Core.List.{map};
-ghost use lib.ListN.{length, getD, replicate};
+ghost use lib.ListN.{length, getD, drop};
 ghost use lib.IntN.{pos, _-ℤ_};
-ghost use Rattle.distr.specs.CenteredBinomial.{firstSum, secondSum};
+ghost use Rattle.distr.specs.CenteredBinomial.{binomialValue};
 ghost use Rattle.distr.specs.Encoding.{encodeWith};
 ghost use Rattle.distr.specs.Draw.{outcome};
-ghost use Rattle.centered_binomial.specs.Binomial.{making, isMadeBinomial, binomialDraw, drawNumber, binomialValues, Ready};
+ghost use Rattle.distr.specs.Words.{got};
+ghost use Rattle.wide_words.specs.Answering.{wideRead};
+ghost use Rattle.centered_binomial.specs.Binomial.{making, isMadeBinomial, binomialDraw, Ready};
 
 // A sampler: eta, and a mask of eta ones.
 pub struct CenteredBinomial {
@@ -22,7 +24,7 @@ pub struct MadeBinomial {
     pub sampler: CenteredBinomial,
 }
 
-// The ones of the two parts of a word.
+// Two counts of ones whose difference is a coefficient.
 struct Ones {
     first: u32,
     second: u32,
@@ -60,24 +62,18 @@ impl CenteredBinomial {
     pub fn sample_to_i64(self, output: &mut [i64], words: &[u32], place: usize) -> Answer
         ensures { λ r. ⌜ outcome r (now (output .exit)) ≡ binomialDraw (λ cs. cs) self (now (words .entry)) place (now (output .entry)) ⌝ }
     {
-        let n = output.len();
-        let number = draw_number(self, words.len(), place, n);
-        if number == 0 {
-            let eta = self.eta;
-            let mask = self.mask;
-            fill_i64(eta, mask, output, words, place);
-            return Answer {
-                number: 0,
-                place: place + 2 * n,
-            };
+        if !is_made(self) {
+            return Answer { number: 21, place };
         }
-        if number == 23 {
+        let answer = wide_words::answer_of(true, words.len(), place, output.len());
+        if answer.number == 0 {
+            fill_i64(self.eta, self.mask, output, words, place);
+            return answer;
+        }
+        if answer.number == 23 {
             fill::clear_i64(output);
         }
-        Answer {
-            number: number,
-            place: place,
-        }
+        answer
     }
 
     // Draws residues over the whole output, with the caller's encoding of -1: -m becomes minus_one - (m - 1), or 0
@@ -91,24 +87,18 @@ impl CenteredBinomial {
     ) -> Answer
         ensures { λ r. ⌜ outcome r (now (output .exit)) ≡ binomialDraw (map (encodeWith «minus_one»)) self (now (words .entry)) place (now (output .entry)) ⌝ }
     {
-        let n = output.len();
-        let number = draw_number(self, words.len(), place, n);
-        if number == 0 {
-            let eta = self.eta;
-            let mask = self.mask;
-            fill_u64(eta, mask, output, minus_one, words, place);
-            return Answer {
-                number: 0,
-                place: place + 2 * n,
-            };
+        if !is_made(self) {
+            return Answer { number: 21, place };
         }
-        if number == 23 {
+        let answer = wide_words::answer_of(true, words.len(), place, output.len());
+        if answer.number == 0 {
+            fill_u64(self.eta, self.mask, output, minus_one, words, place);
+            return answer;
+        }
+        if answer.number == 23 {
             fill::clear_u64(output);
         }
-        Answer {
-            number: number,
-            place: place,
-        }
+        answer
     }
 }
 
@@ -118,25 +108,6 @@ fn is_made(sampler: CenteredBinomial) -> bool
 {
     let made = CenteredBinomial::new(sampler.eta);
     (made.number == 0) & (sampler.mask == made.sampler.mask)
-}
-
-// The number of a draw of n coefficients, two words each: 21, 22, 6, 23 or 0.
-fn draw_number(sampler: CenteredBinomial, count: usize, place: usize, n: usize) -> u32
-    ensures { λ r. ⌜ r ≡ drawNumber sampler count place n ⌝ }
-{
-    if !is_made(sampler) {
-        return 21;
-    }
-    if count < place {
-        return 22;
-    }
-    if 65536 < n {
-        return 6;
-    }
-    if count - place < 2 * n {
-        return 23;
-    }
-    0
 }
 
 // The 64-bit word of two words, low half first.
@@ -149,14 +120,16 @@ fn wide_at(words: &[u32], at: usize) -> u64
     low + high * 0x1_0000_0000
 }
 
-// Counts the ones of the eta low bits of a word, and of the eta bits above them.
+// The ones of the 2 eta low bits of a word with the upper eta of them turned over, and eta. Turned over, the upper part counts eta
+// less its ones, so the two differ by the ones of the lower part less those of the upper: one count serves both parts.
 fn ones_of(eta: u32, mask: u64, word: u64) -> Ones
     requires { ⌜ (eta ≤ 32) × (mask ≡ 2 ^ eta - 1) ⌝ }
-    ensures { λ r. ⌜ (r .first ≡ firstSum eta word) × (r .second ≡ secondSum eta word) ⌝ }
+    ensures { λ r. ⌜ pos (r .first) -ℤ pos (r .second) ≡ binomialValue eta word ⌝ }
 {
+    let upper = mask << eta;
     Ones {
-        first: u64::count_ones(word & mask),
-        second: u64::count_ones((word >> eta) & mask),
+        first: u64::count_ones((word & (upper + mask)) ^ upper),
+        second: eta,
     }
 }
 
@@ -187,7 +160,8 @@ fn residue(ones: Ones, minus_one: u64) -> u64
 // Writes signed coefficients over the whole output, whose words are known to be there.
 fn fill_i64(eta: u32, mask: u64, output: &mut [i64], words: &[u32], place: usize)
     requires { ⌜ Ready eta mask (length (now output)) (length (now words)) place ⌝ }
-    ensures { λ _. ⌜ now (output .exit) ≡ binomialValues eta (length (now (output .entry))) (now (words .entry)) place ⌝ }
+    ensures { λ _. ⌜ wideRead (binomialValue eta) (length (now (output .entry))) (drop place (now (words .entry))) ≡
+        got (now (output .exit)) (drop (place + 2 * length (now (output .entry))) (now (words .entry))) ⌝ }
 {
     let n = output.len();
     let mut i = 0;
@@ -201,7 +175,8 @@ fn fill_i64(eta: u32, mask: u64, output: &mut [i64], words: &[u32], place: usize
 // Writes residues in the same way.
 fn fill_u64(eta: u32, mask: u64, output: &mut [u64], minus_one: u64, words: &[u32], place: usize)
     requires { ⌜ Ready eta mask (length (now output)) (length (now words)) place ⌝ }
-    ensures { λ _. ⌜ now (output .exit) ≡ map (encodeWith «minus_one») (binomialValues eta (length (now (output .entry))) (now (words .entry)) place) ⌝ }
+    ensures { λ _. ⌜ wideRead (λ w. encodeWith «minus_one» (binomialValue eta w)) (length (now (output .entry))) (drop place (now (words .entry))) ≡
+        got (now (output .exit)) (drop (place + 2 * length (now (output .entry))) (now (words .entry))) ⌝ }
 {
     let n = output.len();
     let mut i = 0;

@@ -17,7 +17,7 @@ use Rattle.probability.specs.Made.{madeThreshold}
 use Rattle.probability.specs.declared.MadeThreshold.{MadeThreshold}
 use Rattle.probability.proofs.Made.{flagged-value, made-number, made-threshold}
 use Rattle.probability.proofs.Thresholds.{one, below-one, at-one, above-zero, below-or-one}
-use Rattle.ternary.specs.Sampler.{thresholdOf}
+use Rattle.words.specs.Reading.{thresholdValue}
 use Rattle.common.specs.Probabilities.{probabilityDraw}
 
 -- 0 says that the test did not hold
@@ -39,7 +39,7 @@ module _ {A : Type 0} (bad : Bool) (write : List ℤ → List A) (rule : Rule) (
   accepted z w r d = rw (← e, z, ← w, ← r) d
 
 -- what `threshold_of` hands back for a probability stands for its threshold
-pub threshold-made : (p : Float) {r : MadeThreshold} → r ≡ madeThreshold p → badProbability p ≡ false → thresholdOf (r .threshold) ≡ threshold p
+pub threshold-made : (p : Float) {r : MadeThreshold} → r ≡ madeThreshold p → badProbability p ≡ false → thresholdValue (r .threshold) ≡ threshold p
 threshold-made p e good = rw (e, made-threshold p good) (flagged-value (threshold p))
 
 -- the binary draw by what `threshold_of` handed back
@@ -51,7 +51,7 @@ module _ {A : Type 0} (write : List ℤ → List A) (p : Float) (words : List �
       → record { number = r .number; place = place; output = out } ≡ probabilityDraw (badProbability p) write (binary (threshold p) (length out)) words place out
   binary-refused = refused (badProbability p) write (binary (threshold p) (length out)) words place out number-made
 
-  pub binary-accepted : r .number ≡ 0 → {o : Outcome A} → o ≡ ruleDraw write 0 (binary (thresholdOf (r .threshold)) (length out)) words place out
+  pub binary-accepted : r .number ≡ 0 → {o : Outcome A} → o ≡ ruleDraw write 0 (binary (thresholdValue (r .threshold)) (length out)) words place out
       → o ≡ probabilityDraw (badProbability p) write (binary (threshold p) (length out)) words place out
   binary-accepted z =
       accepted (badProbability p) write (binary (threshold p) (length out)) words place out number-made z refl

@@ -17,7 +17,8 @@ use Rattle.distr.specs.Draw.{Outcome, ruleDraw, signedDraw, encodedDraw}
 use Rattle.counts.proofs.Thresholds.{threshold-le}
 use Rattle.probability.specs.Made.{flagged}
 use Rattle.probability.proofs.Made.{flagged-value}
-use Rattle.ternary.specs.Sampler.{thresholdOf, samplerRule, samplerOf}
+use Rattle.words.specs.Reading.{thresholdValue}
+use Rattle.ternary.specs.Sampler.{samplerRule, samplerOf}
 use Rattle.ternary.proofs.Sampling.{sampler-rule}
 use Rattle.draw_laws.proofs.Signed as signed
 use Rattle.draw_laws.proofs.Encoded as encoded
@@ -34,7 +35,7 @@ good-rule minus plus n z =
     sampler-rule (threshold minus) (threshold plus) n (threshold-le minus (subst (λ (b : Bool). T (not b)) (sym good) tt))
 
 -- The rule of a prepared threshold is the distribution's.
-flagged-rule : (p : Float) (n : ℕ) → binary (thresholdOf (flagged (threshold p))) n ≡ binary (threshold p) n
+flagged-rule : (p : Float) (n : ℕ) → binary (thresholdValue (flagged (threshold p))) n ≡ binary (threshold p) n
 flagged-rule p n = ap (λ (t : ℕ). binary t n) (flagged-value (threshold p))
 
 -- One rule in the place of another.

@@ -12,7 +12,8 @@ use Rattle.distr.specs.Making.{badProbability, badProbabilities, refuse, secret
 use Rattle.distr.specs.Thresholds.{threshold}
 use Rattle.probability.specs.Made.{madeThreshold}
 use Rattle.probability.proofs.Made.{flagged-value, made-number, made-threshold}
-use Rattle.ternary.specs.Sampler.{thresholdOf, samplerOf}
+use Rattle.words.specs.Reading.{thresholdValue}
+use Rattle.ternary.specs.Sampler.{samplerOf}
 use Rattle.gaussian_core.specs.Made.{madeParameters}
 use Rattle.gaussian_core.proofs.Support.{or-false}
 use Rattle.gaussian_core.proofs.Judged.{same-where-zero, tested-first}
@@ -47,12 +48,12 @@ pub both-good : (minus plus : Float) → badProbabilities minus plus ≡ false �
 both-good minus plus h = or-false _ _ (or-false (badProbability minus || badProbability plus) _ h .0)
 
 -- The threshold that a probability's making hands back.
-value-of : (p : Float) → badProbability p ≡ false → thresholdOf (madeThreshold p .threshold) ≡ threshold p
-value-of p e = ap thresholdOf (made-threshold p e) ∙ flagged-value (threshold p)
+value-of : (p : Float) → badProbability p ≡ false → thresholdValue (madeThreshold p .threshold) ≡ threshold p
+value-of p e = ap thresholdValue (made-threshold p e) ∙ flagged-value (threshold p)
 
 pub prepares-ternary : (minus plus : Float)
     → judgedMethod (refuse (badProbabilities minus plus) 1)
-    (Ternary (samplerOf (thresholdOf (madeThreshold minus .threshold)) (thresholdOf (madeThreshold plus .threshold))))
+    (Ternary (samplerOf (thresholdValue (madeThreshold minus .threshold)) (thresholdValue (madeThreshold plus .threshold))))
     ≡ preparing (Distr.Ternary minus plus)
 unfolding secretNumber prepared
 prepares-ternary minus plus =

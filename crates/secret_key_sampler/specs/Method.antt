@@ -15,7 +15,8 @@ use Rattle.distr.specs.Encoding.{signedWith, encodeWith}
 use Rattle.distr.specs.Making.{refuse}
 use Rattle.distr.specs.Numbers.{badWeight, gaussianTable}
 use Rattle.distr.specs.Draw.{Outcome, readDraw, ruleDraw}
-use Rattle.ternary.specs.Sampler.{thresholdOf, samplerRule}
+use Rattle.words.specs.Reading.{thresholdValue}
+use Rattle.ternary.specs.Sampler.{samplerRule}
 use Rattle.secret_key_sampler.specs.declared.SamplingMethod.{SamplingMethod}
 use Rattle.secret_key_sampler.specs.declared.SamplingMethod.the-variants.{UniformBinary, Binary, SparseTernary, UniformTernary, Ternary, Empty}
 use Rattle.secret_key_sampler.specs.declared.SamplingMethod.the-variants.{FixedHammingWeightBinary, BlockBinary, FixedHammingWeightTernary, FixedCompositionTernary, Gaussian}
@@ -35,7 +36,7 @@ residueWrites minus = record { bits = map natAbs; trits = map (encodeWith minus)
 
 unfoldable pub methodDraw : {A : Type 0} → Writes A → SamplingMethod → Tables → List ℕ → ℕ → List A → Outcome A
 methodDraw write UniformBinary tables words place out = ruleDraw (write .bits) 0 (uniformBinary (length out)) words place out
-methodDraw write (Binary t) tables words place out = ruleDraw (write .bits) 0 (binary (thresholdOf t) (length out)) words place out
+methodDraw write (Binary t) tables words place out = ruleDraw (write .bits) 0 (binary (thresholdValue t) (length out)) words place out
 methodDraw write SparseTernary tables words place out = ruleDraw (write .trits) 0 (sparseTernary (length out)) words place out
 methodDraw write UniformTernary tables words place out = ruleDraw (write .trits) 0 (uniformTernary (length out)) words place out
 methodDraw write (Ternary s) tables words place out = ruleDraw (write .trits) 0 (samplerRule s (length out)) words place out

@@ -1,5 +1,6 @@
 -- Laws of the draws by thresholds.
 pub mod Slots
-pub mod Drawn
+pub mod Halves
 pub mod Sampling
 pub mod Values
+pub mod Plans

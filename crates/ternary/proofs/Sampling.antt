@@ -12,7 +12,8 @@ use Rattle.distr.specs.Packed.{minusOne}
 use Rattle.distr.specs.Thresholds.{nonzeroEnd, ternaryValue, ternary}
 use Rattle.ternary.specs.declared.ternary.TernaryValue.the-variants.{MinusOne, Zero, One}
 use Rattle.ternary.specs.declared.ternary.TernarySampler.the-variants.{Constant, Nonzero, General}
-use Rattle.ternary.specs.Sampler.{thresholdOf, endsValue, samplerOf, samplerRule}
+use Rattle.words.specs.Reading.{thresholdValue}
+use Rattle.ternary.specs.Sampler.{endsValue, samplerOf, samplerRule}
 
 -- the end of the nonzero words is 0
 abbrev nothing : Threshold → Threshold → Bool
@@ -34,16 +35,16 @@ nothing-false n p f e = go (eqb (n .below) 0) (eqb (p .below) 0) refl refl (rw f
 
 -- where the threshold of -1 is not full: the sampler in each case of the other
 module _ (n p : Threshold) (part : n .full ≡ false) where
-  pub made-zero : nothing n p ≡ true → Constant Zero ≡ samplerOf (thresholdOf n) (thresholdOf p)
+  pub made-zero : nothing n p ≡ true → Constant Zero ≡ samplerOf (thresholdValue n) (thresholdValue p)
   unfolding samplerOf
   made-zero e = let h = nothing-true n p e in rw (part, h .0, h .1, h .2)
 
-  pub made-one : n .below < 2 ^ 64 → p .full ≡ true → Constant One ≡ samplerOf (thresholdOf n) (thresholdOf p)
+  pub made-one : n .below < 2 ^ 64 → p .full ≡ true → Constant One ≡ samplerOf (thresholdValue n) (thresholdValue p)
   unfolding samplerOf
   made-one h f = rw (part, f, ne-eqb (n .below) (2 ^ 64) (λ e. omega arith), ne-eqb (nonzeroEnd (n .below) (2 ^ 64)) 0 (λ e. omega arith))
 
   pub made-nonzero : n .below < 2 ^ 64 → p .below < 2 ^ 64 → p .full ≡ false → 2 ^ 64 - 1 - n .below < p .below
-      → Nonzero (n .below) ≡ samplerOf (thresholdOf n) (thresholdOf p)
+      → Nonzero (n .below) ≡ samplerOf (thresholdValue n) (thresholdValue p)
   unfolding samplerOf
   made-nonzero h k f l =
       rw (
@@ -56,7 +57,7 @@ module _ (n p : Threshold) (part : n .full ≡ false) where
       )
 
   pub made-general : n .below < 2 ^ 64 → p .full ≡ false → nothing n p ≡ false → p .below ≤ 2 ^ 64 - 1 - n .below
-      → General (n .below) (n .below + p .below) ≡ samplerOf (thresholdOf n) (thresholdOf p)
+      → General (n .below) (n .below + p .below) ≡ samplerOf (thresholdValue n) (thresholdValue p)
   unfolding samplerOf
   made-general h f e l =
       let some : 0 < n .below + p .below = nothing-false n p f e in

@@ -1,11 +1,11 @@
--- One 64-bit word an element, the element taken from a table by two ends: what the loops of this crate do.
-use Prim.Native.Nat.{ℕ, _+_, _-_}
-use mathlib.Core.List.{List, map}
-use lib.Dec.{leb}
+-- One 64-bit word an element, the element taken from a table by two ends, or 1 or 0 by one end: what the loops of this crate do.
+use Prim.Native.Nat.{ℕ, _+_}
+use mathlib.Core.List.{List}
+use lib.Dec.{leb, ltb}
 use mir.Val.{boolByte}
-use lib.ListN.{length, getD, drop, replicate}
-use Rattle.distr.specs.Words.{Read, got, short, mapRead, many, wide}
-use Rattle.distr.specs.Draw.{Outcome}
+use lib.ListN.{getD}
+use Rattle.distr.specs.Words.{Read}
+use Rattle.wide_words.specs.Answering.{wideRead}
 
 -- The number of two ends that are not above a word.
 unfoldable pub slotOf : ℕ → ℕ → ℕ → ℕ
@@ -17,14 +17,8 @@ picked zero values first second w = getD values (slotOf first second w) zero
 
 -- n elements, each by a 64-bit word.
 abbrev pub pickedRead : {A : Type 0} → A → List A → ℕ → ℕ → ℕ → List ℕ → Read (List A)
-pickedRead zero values first second n ws = mapRead (map (picked zero values first second)) (many wide n ws)
+pickedRead zero values first second = wideRead (picked zero values first second)
 
--- What a draw of n elements hands back, as `settled` has it for coefficients: 0 and the new place, or 23 and n times `zero`.
-unfoldable pub settledAs : {A : Type 0} → A → ℕ → ℕ → ℕ → Read (List A) → Outcome A
-settledAs zero count place n (got xs rest) = record { number = 0; place = count - length rest; output = xs }
-settledAs zero count place n short = record { number = 23; place = place; output = replicate n zero }
-
--- The draw of a whole output by a table.
-abbrev pub pickedDraw : {A : Type 0} → A → List A → ℕ → ℕ → List ℕ → ℕ → List A → Outcome A
-pickedDraw zero values first second words place out =
-    settledAs zero (length words) place (length out) (pickedRead zero values first second (length out) (drop place words))
+-- 1 for a word below an end, else 0.
+unfoldable pub oneBelow : ℕ → ℕ → ℕ
+oneBelow end w = boolByte (ltb w end)

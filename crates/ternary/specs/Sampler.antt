@@ -1,9 +1,8 @@
 -- A prepared ternary sampler: what the thresholds prepare, and the rule that it draws by.
 use Prim.Native.Nat.{ℕ, _^_}
-use mathlib.Core.Bool.{cond}
+use mathlib.Core.Bool.{cond, true, false}
 use lib.Dec.{ltb, eqb}
 use lib.IntN.{ℤ, pos}
-use Rattle.distr.specs.declared.threshold.Threshold.{Threshold}
 use Rattle.distr.specs.Rule.{Rule, constant, wideWords}
 use Rattle.distr.specs.Packed.{minusOne}
 use Rattle.distr.specs.Thresholds.{nonzeroEnd}
@@ -11,10 +10,7 @@ use Rattle.ternary.specs.declared.ternary.TernaryValue.{TernaryValue}
 use Rattle.ternary.specs.declared.ternary.TernaryValue.the-variants.{MinusOne, Zero, One}
 use Rattle.ternary.specs.declared.ternary.TernarySampler.{TernarySampler}
 use Rattle.ternary.specs.declared.ternary.TernarySampler.the-variants.{Constant, Nonzero, General}
-
--- The threshold itself: 2^64 where it is full.
-abbrev pub thresholdOf : Threshold → ℕ
-thresholdOf t = cond (t .full) (2 ^ 64) (t .below)
+use Rattle.ternary.specs.declared.ternary.Plan.{Plan}
 
 abbrev pub valueOf : TernaryValue → ℤ
 valueOf MinusOne = minusOne
@@ -38,3 +34,10 @@ samplerOf N P =
     (cond (eqb (nonzeroEnd N P) 0) (Constant Zero)
     (cond (eqb P (2 ^ 64)) (Constant One)
     (cond (eqb (nonzeroEnd N P) (2 ^ 64)) (Nonzero N) (General N (nonzeroEnd N P)))))
+
+-- What a sampler does, whatever the type of its output: whether it reads, what it gives where not, and what for a word below one end
+-- and below none.
+unfoldable pub planOf : TernarySampler → Plan
+planOf (Constant v) = record { reads = false; constant = v; between = 0; above = 0; «first_end» = 0; «second_end» = 0 }
+planOf (Nonzero N) = record { reads = true; constant = Zero; between = 0; above = 1; «first_end» = N; «second_end» = N }
+planOf (General N E) = record { reads = true; constant = Zero; between = 1; above = 0; «first_end» = N; «second_end» = E }

@@ -1,5 +1,5 @@
 // `Binary`: ones and zeros by one threshold.
-use crate::ends;
+use crate::below;
 use distr::answer::Answer;
 use distr::threshold::Threshold;
 ghost use mathlib.Core.Path.{_≡_};
@@ -8,7 +8,7 @@ ghost use lib.ListN.{length};
 ghost use lib.IntN.{natAbs};
 ghost use Rattle.distr.specs.Draw.{outcome, ruleDraw};
 ghost use Rattle.distr.specs.Thresholds.{binary};
-ghost use Rattle.ternary.specs.Sampler.{thresholdOf};
+ghost use Rattle.words.specs.Reading.{thresholdValue};
 
 // 1 for a 64-bit word below the threshold, else 0; a full threshold gives ones and reads nothing.
 pub fn fill_binary_i64(
@@ -18,23 +18,25 @@ pub fn fill_binary_i64(
     place: usize,
 ) -> Answer
     ensures { λ r. ⌜ outcome r (now (output .exit)) ≡
-        ruleDraw (λ cs. cs) 0 (binary (thresholdOf threshold) (length (now (output .entry)))) (now (words .entry)) place (now (output .entry)) ⌝ }
+        ruleDraw (λ cs. cs) 0 (binary (thresholdValue threshold) (length (now (output .entry)))) (now (words .entry)) place (now (output .entry)) ⌝ }
 {
-    if words.len() < place {
-        return Answer { number: 22, place };
+    let answer = wide_words::answer_of(!threshold.full, words.len(), place, output.len());
+    if answer.number == 23 {
+        fill::clear_i64(output);
+        return answer;
     }
-    if 65536 < output.len() {
-        return Answer { number: 6, place };
+    if answer.number != 0 {
+        return answer;
     }
     if threshold.full {
         fill::fill_i64(output, 1);
-        return Answer { number: 0, place };
+        return answer;
     }
-    let values: [i64; 3] = [0, 1, 0];
-    ends::draw_i64(output, &values, 0, threshold.below, words, place)
+    below::fill_i64(output, threshold.below, words, place);
+    answer
 }
 
-// 1 for a 64-bit word below the threshold, else 0; a full threshold gives ones and reads nothing.
+// The same for residues.
 pub fn fill_binary_u64(
     output: &mut [u64],
     threshold: Threshold,
@@ -42,18 +44,20 @@ pub fn fill_binary_u64(
     place: usize,
 ) -> Answer
     ensures { λ r. ⌜ outcome r (now (output .exit)) ≡
-        ruleDraw (map natAbs) 0 (binary (thresholdOf threshold) (length (now (output .entry)))) (now (words .entry)) place (now (output .entry)) ⌝ }
+        ruleDraw (map natAbs) 0 (binary (thresholdValue threshold) (length (now (output .entry)))) (now (words .entry)) place (now (output .entry)) ⌝ }
 {
-    if words.len() < place {
-        return Answer { number: 22, place };
+    let answer = wide_words::answer_of(!threshold.full, words.len(), place, output.len());
+    if answer.number == 23 {
+        fill::clear_u64(output);
+        return answer;
     }
-    if 65536 < output.len() {
-        return Answer { number: 6, place };
+    if answer.number != 0 {
+        return answer;
     }
     if threshold.full {
         fill::fill_u64(output, 1);
-        return Answer { number: 0, place };
+        return answer;
     }
-    let values: [u64; 3] = [0, 1, 0];
-    ends::draw_u64(output, &values, 0, threshold.below, words, place)
+    below::fill_u64(output, threshold.below, words, place);
+    answer
 }

@@ -1,12 +1,10 @@
 // Loops over 64-bit words by two ends, one for each type of the output.
-use distr::answer::Answer;
 ghost use mathlib.Core.Path.{_≡_};
 ghost use Prim.Native.Nat.{_+_, _*_, _≤_, _^_};
-ghost use lib.ListN.{length, drop, replicate};
+ghost use lib.ListN.{length, drop};
 ghost use lib.IntN.{pos};
 ghost use Rattle.distr.specs.Words.{got};
-ghost use Rattle.distr.specs.Draw.{outcome};
-ghost use Rattle.ternary.specs.Picked.{slotOf, pickedRead, pickedDraw};
+ghost use Rattle.ternary.specs.Picked.{slotOf, pickedRead};
 
 // How many of two ends are not above the 64-bit word of two halves, low half first.
 fn slot(low: u32, high: u32, first_end: u64, second_end: u64) -> usize
@@ -18,7 +16,7 @@ fn slot(low: u32, high: u32, first_end: u64, second_end: u64) -> usize
 
 // Each element is taken from the table by a 64-bit word: at the number of ends that are not above it.
 // The words are there, so nothing is tested on the way, and no branch depends on them.
-fn pick_i64(
+pub(crate) fn pick_i64(
     output: &mut [i64],
     values: &[i64; 3],
     first_end: u64,
@@ -40,34 +38,9 @@ fn pick_i64(
     }
 }
 
-// Draws every element by a 64-bit word. The words are counted first: too few of them give 23 and zeros.
-pub(crate) fn draw_i64(
-    output: &mut [i64],
-    values: &[i64; 3],
-    first_end: u64,
-    second_end: u64,
-    words: &[u32],
-    place: usize,
-) -> Answer
-    requires { ⌜ place ≤ length (now words) ⌝ }
-    ensures { λ r. ⌜ outcome r (now (output .exit)) ≡
-        pickedDraw (pos 0) (now (values .entry)) «first_end» «second_end» (now (words .entry)) place (now (output .entry)) ⌝ }
-{
-    let n = output.len();
-    if (words.len() - place) / 2 < n {
-        fill::fill_i64(output, 0);
-        return Answer { number: 23, place };
-    }
-    pick_i64(output, values, first_end, second_end, words, place);
-    Answer {
-        number: 0,
-        place: place + 2 * n,
-    }
-}
-
 // Each element is taken from the table by a 64-bit word: at the number of ends that are not above it.
 // The words are there, so nothing is tested on the way, and no branch depends on them.
-fn pick_u64(
+pub(crate) fn pick_u64(
     output: &mut [u64],
     values: &[u64; 3],
     first_end: u64,
@@ -86,30 +59,5 @@ fn pick_u64(
         output[i] = values[slot(words[at], words[at + 1], first_end, second_end)];
         i += 1;
         at += 2;
-    }
-}
-
-// Draws every element by a 64-bit word. The words are counted first: too few of them give 23 and zeros.
-pub(crate) fn draw_u64(
-    output: &mut [u64],
-    values: &[u64; 3],
-    first_end: u64,
-    second_end: u64,
-    words: &[u32],
-    place: usize,
-) -> Answer
-    requires { ⌜ place ≤ length (now words) ⌝ }
-    ensures { λ r. ⌜ outcome r (now (output .exit)) ≡
-        pickedDraw 0 (now (values .entry)) «first_end» «second_end» (now (words .entry)) place (now (output .entry)) ⌝ }
-{
-    let n = output.len();
-    if (words.len() - place) / 2 < n {
-        fill::fill_u64(output, 0);
-        return Answer { number: 23, place };
-    }
-    pick_u64(output, values, first_end, second_end, words, place);
-    Answer {
-        number: 0,
-        place: place + 2 * n,
     }
 }

@@ -1,4 +1,5 @@
 // `Binary` and `Ternary`: coefficients by the thresholds of 64-bit words.
+mod below;
 pub mod binary;
 mod ends;
 pub mod ternary;

@@ -1,24 +1,27 @@
 -- The loop of signed coefficients: after i turns the first i stand in the output.
-use mathlib.Core.Path.{_≡_, refl, sym, ap, ap₂, _∙_}
+use mathlib.Core.Path.{_≡_, refl, ap, _∙_}
 use Prim.Native.Nat.{_-_, _≤_}
 use native.Mathlib.Omega.{arith}
-use lib.ListN.{length, set}
-use borrow.Author.Needs.{needs, sfits-of}
-use Rattle.distr.specs.CenteredBinomial.{binomialValue}
+use lib.ListN.{length, length-set}
 use mir.Syntax.{w64}
 use mir.Facts.{toZ-ofZ}
-use Rattle.centered_binomial.proofs.Values.{values-wanted, progress, progress-length, progress-more, progress-all, value-of}
+use borrow.Author.Needs.{needs, sfits-of}
+use Rattle.distr.specs.CenteredBinomial.{binomialValue}
+use Rattle.distr.proofs.Writing.{written}
+use Rattle.distr.proofs.Picking.{elements, pick-more, pick-all}
 use Rattle.centered_binomial.proofs.fill_i64.Statement.{statement}
 use Rattle.centered_binomial.proofs.fill_i64.Tie as tie
 
 abbrev Inv-loop : tie.InvT-loop
-Inv-loop eta mask output₀ words place n i₀ output i = (i ≤ n) × (output ≡ progress (binomialValue eta) words place output₀ i)
+Inv-loop eta mask output₀ words place n i₀ output i =
+    (i ≤ length output₀) × (length output ≡ length output₀)
+    × (output ≡ written (elements (binomialValue eta) words place (length output₀)) i output₀)
 
 abbrev μ-loop : tie.MeasureT-loop
 μ-loop eta mask output₀ words place n i₀ output i = n - i
 
 loop-holds : tie.Need-loop-holds Inv-loop μ-loop
-loop-holds c = (omega arith, refl)
+loop-holds c = (omega arith, refl, refl)
 
 mul-wide-at : tie.Need-mul-wide-at Inv-loop μ-loop
 mul-wide-at c = omega arith
@@ -38,15 +41,8 @@ signed-requires c κs = tt
 mul-t10 : tie.Need-mul-t10 Inv-loop μ-loop
 mul-t10 c = search needs
 
--- the output keeps its length
-kept : (c : tie.At-loop Inv-loop μ-loop) → length (c .loop .output) ≡ length (c .before .before .args .output .now)
-kept c =
-    let a = c .before .before .args in
-    ap length (c .loop .inv .1)
-    ∙ progress-length (binomialValue (a .eta)) (a .words .now) (a .place) (a .output .now) (c .loop .i) (c .loop .inv .0)
-
 slice-set-from-output : tie.Need-slice-set-from-output Inv-loop μ-loop
-slice-set-from-output c = omega (arith, kept (c .before .before .before .before))
+slice-set-from-output c = omega arith
 
 add-i : tie.Need-add-i Inv-loop μ-loop
 add-i c = omega arith
@@ -58,26 +54,27 @@ loop-less c = omega arith
 loop-again : tie.Need-loop-again Inv-loop μ-loop
 loop-again c =
     let a = c .before .before .before .before .before .before .args in
-    let at = c .before .before .before .before .loop in
+    let turn = c .before .before .before .before .loop in
     let wide = c .before .before .wide-at in
     let ones = c .before .ones-of in (
       omega arith,
-      ap₂ (λ o v. set o (at .i) v) (at .inv .1)
-          (toZ-ofZ {w = w64} (sfits-of (c .signed .ok)) ∙ c .signed .ensures
-          ∙ value-of (a .eta) (wide .result) _ (ones .result .first) (ones .result .second) (ones .ensures .0) (ones .ensures .1) (wide .ensures))
-          ∙ progress-more (binomialValue (a .eta)) (a .words .now) (a .place) (a .output .now) (at .i) (c .before .before .before .loop-test .taken),
+      simp length-set (turn .inv .1),
+      rw (turn .inv .2)
+          (pick-more (binomialValue (a .eta)) (a .words .now) (a .place) (a .output .now) (turn .i) _ _
+          (c .before .before .before .loop-test .taken) refl
+          (toZ-ofZ {w = w64} (sfits-of (c .signed .ok)) ∙ c .signed .ensures ∙ ones .ensures ∙ ap (binomialValue (a .eta)) (wide .ensures))),
     )
 
 same-length : tie.Need-same-length Inv-loop μ-loop
-same-length c = kept (c .before)
+same-length c = c .before .loop .inv .1
 
 returns : tie.Need-returns Inv-loop μ-loop
 returns c =
-    let a = c .before .before .before .args in
-    let at = c .before .loop in
-    at .inv .1
-    ∙ progress-all (binomialValue (a .eta)) (a .words .now) (a .place) (a .output .now) (at .i) (at .inv .0) (c .loop-test .left)
-    ∙ sym (values-wanted (a .eta) (length (a .output .now)) (a .words .now) (a .place) (c .before .before .before .pre .enough))
+    let start = c .before .before .before in
+    let a = start .args in
+    let turn = c .before .loop in
+    pick-all (binomialValue (a .eta)) (a .words .now) (a .place) (a .output .now) (turn .i)
+    (turn .output) (start .pre .enough) (omega arith) (turn .inv .2)
 
 pub fill-i64-spec : {M : Type 1} → statement M
 fill-i64-spec =

@@ -1,25 +1,17 @@
--- The counts of ones are the sums of bits of the definition.
-use mathlib.Core.Path.{_≡_, sym, ap, _∙_}
-use Prim.Native.Nat.{ℕ, _/_, _%_, _^_}
-use native.Mathlib.Omega.{arith}
-use lib.Bits.{bitAnd, and-mask}
-use lib.Count.{ones}
+-- The count of ones and eta differ by the coefficient.
 use borrow.Author.Needs.{needs}
-use Rattle.distr.proofs.BitSums.{first-ones, second-ones}
+use Rattle.centered_binomial.proofs.Counting.{both-fit, both-value}
 use Rattle.centered_binomial.proofs.ones_of.Statement.{statement}
 use Rattle.centered_binomial.proofs.ones_of.Tie as tie
 
-shr-t7 : tie.Need-shr-t7
-shr-t7 c = search needs
+shl-upper : tie.Need-shl-upper
+shl-upper c = search needs
+
+add-t5 : tie.Need-add-t5
+add-t5 c = record { fits = both-fit (c .args .eta) (c .args .mask) (c .pre .0) (c .pre .1) }
 
 returns : tie.Need-returns
-returns c = (
-  masked (c .args .word) ∙ sym (first-ones (c .args .eta) (c .args .word) (omega arith)),
-  masked (c .args .word / 2 ^ c .args .eta) ∙ sym (second-ones (c .args .eta) (c .args .word) (omega arith)),
-)
-  where
-    masked : (x : ℕ) → ones (bitAnd x (c .args .mask)) ≡ ones (x % 2 ^ c .args .eta)
-    masked x = ap (λ m. ones (bitAnd x m)) (c .pre .1) ∙ ap ones (and-mask x (c .args .eta))
+returns c = both-value (c .args .eta) (c .args .mask) (c .pre .0) (c .pre .1) (c .args .word)
 
 pub ones-of-spec : {M : Type 1} → statement M
-ones-of-spec = tie.close (tie.spec shr-t7 returns)
+ones-of-spec = tie.close (tie.spec shl-upper add-t5 returns)

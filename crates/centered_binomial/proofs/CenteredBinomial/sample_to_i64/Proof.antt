@@ -1,34 +1,49 @@
--- A signed draw: the tests, then the loop that writes or the one that clears.
-use mathlib.Core.Path.{sym, _∙_}
-use native.Mathlib.Omega.{arith}
+-- A signed draw: the sampler and the answer, then the loop that writes or the one that clears.
+use mathlib.Core.Path.{_≡_, refl, sym, _∙_}
+use mathlib.Core.Bool.{true}
+use lib.IntN.{pos}
 use borrow.Author.Needs.{needs}
-use Rattle.centered_binomial.proofs.Numbers.{number-ready, draw-done, draw-cleared, draw-refused}
+use borrow.Author.Tests.{not-true, not-false}
+use Rattle.distr.specs.CenteredBinomial.{binomialValue}
+use Rattle.distr.proofs.Writing.{map-id}
+use Rattle.wide_words.proofs.Numbers.{answer-enough}
+use Rattle.wide_words.proofs.Answers.{draw-cleared, draw-refused, draw-read}
+use Rattle.centered_binomial.specs.Binomial.{isMadeBinomial}
+use Rattle.centered_binomial.proofs.Samplers.{made-small, made-mask}
 use Rattle.centered_binomial.proofs.CenteredBinomial.sample_to_i64.Statement.{statement}
 use Rattle.centered_binomial.proofs.CenteredBinomial.sample_to_i64.Tie as tie
 
-draw-number-requires : tie.Need-draw-number-requires
-draw-number-requires c κs = search needs
+is-made-requires : tie.Need-is-made-requires
+is-made-requires c κs = search needs
+
+returns : tie.Need-returns
+returns c = rw (sym (c .before .is-made .ensures) ∙ not-true (c .before .is-made .result) (c .if1 .taken))
+
+-- past the first test the sampler is one that making gives
+made : (c : tie.Else1) → isMadeBinomial (c .before .before .before .args .self) ≡ true
+made c = sym (c .before .is-made .ensures) ∙ not-false (c .before .is-made .result) (c .if1 .left)
+
+answer-of-requires : tie.Need-answer-of-requires
+answer-of-requires c κs = search needs
 
 fill-i64-requires : tie.Need-fill-i64-requires
-fill-i64-requires c κs = number-ready _ _ _ _ (sym (c .before .before .draw-number .ensures) ∙ c .before .if1 .taken)
-
-mul-t14 : tie.Need-mul-t14
-mul-t14 c = search needs
-
-add-t15 : tie.Need-add-t15
-add-t15 c =
-    let number = c .before .before .before .before .draw-number in
-    omega (arith, number-ready _ _ _ _ (sym (number .ensures) ∙ c .before .before .before .if1 .taken) .enough)
+fill-i64-requires c κs = record {
+  small = made-small _ (made (c .before .before .before .before));
+  masked = made-mask _ (made (c .before .before .before .before));
+  enough = answer-enough _ _ _ (c .before .before .before .answer-of .ensures) (c .before .if2 .taken);
+}
 
 same-length : tie.Need-same-length
 same-length c = search needs
 
-returns : tie.Need-returns
-returns c =
-    let a = c .before .before .before .before .before .before .args in
-    let number = c .before .before .before .before .draw-number in
-    draw-done (λ cs. cs) (a .self) (a .words .now) (a .place) (a .output .now) (number .result) (number .ensures) _
-    (c .before .before .before .if1 .taken) (c .before .fill-i64 .ensures)
+returns-2 : tie.Need-returns-2
+returns-2 c =
+    let a = c .before .before .before .before .before .before .before .before .before .args in
+    rw (made (c .before .before .before .before .before .before))
+    (draw-read (λ cs. cs) (λ x. x) (λ cs. sym (map-id cs)) (a .words .now) (a .place) (a .output .now) (pos 0) (binomialValue (a .self .eta)) _ true refl _
+    (c .before .before .before .before .before .answer-of .ensures) _ (c .before .before .before .if2 .taken) refl
+    (λ i. c .before .before .before .before .before .before .before .before .shared-slice-known .given i .fits)
+    (binomialValue (a .self .eta)) (λ w h. refl) (c .before .fill-i64 .ensures))
 
 clear-i64-requires : tie.Need-clear-i64-requires
 clear-i64-requires c κs = search needs
@@ -36,31 +51,32 @@ clear-i64-requires c κs = search needs
 same-length-2 : tie.Need-same-length-2
 same-length-2 c = search needs
 
-returns-2 : tie.Need-returns-2
-returns-2 c =
-    let a = c .before .before .before .before .before .before .before .args in
-    let number = c .before .before .before .before .before .draw-number in
-    draw-cleared (λ cs. cs) (a .self) (a .words .now) (a .place) (a .output .now) (number .result) (number .ensures) _
-    (c .before .before .before .if2 .taken) (c .before .clear-i64 .ensures)
-
 returns-3 : tie.Need-returns-3
 returns-3 c =
-    let a = c .before .before .before .before .args in
-    let number = c .before .before .draw-number in
-    draw-refused (λ cs. cs) (a .self) (a .words .now) (a .place) (a .output .now) (number .result) (number .ensures)
-    (c .before .if1 .left) (c .if2 .left)
+    let a = c .before .before .before .before .before .before .before .before .before .before .before .args in
+    rw (made (c .before .before .before .before .before .before .before .before))
+    (draw-cleared (λ cs. cs) (λ x. x) (λ cs. sym (map-id cs)) (a .words .now) (a .place) (a .output .now) (pos 0) (binomialValue (a .self .eta)) _ true refl _
+    (c .before .before .before .before .before .before .before .answer-of .ensures) _ (c .before .before .before .if3 .taken)
+    (c .before .clear-i64 .ensures))
+
+returns-4 : tie.Need-returns-4
+returns-4 c =
+    let a = c .before .before .before .before .before .before .before .before .args in
+    rw (made (c .before .before .before .before .before))
+    (draw-refused (λ cs. cs) (λ x. x) (λ cs. sym (map-id cs)) (a .words .now) (a .place) (a .output .now) (pos 0) (binomialValue (a .self .eta)) _ true refl _
+    (c .before .before .before .before .answer-of .ensures) _ (c .if3 .left) (c .before .before .if2 .left) refl)
 
 pub sample-to-i64-spec : {M : Type 1} → statement M
 sample-to-i64-spec =
     tie.close
     (tie.spec
-    draw-number-requires
-    fill-i64-requires
-    mul-t14
-    add-t15
-    same-length
+    is-made-requires
     returns
+    answer-of-requires
+    fill-i64-requires
+    same-length
+    returns-2
     clear-i64-requires
     same-length-2
-    returns-2
-    returns-3)
+    returns-3
+    returns-4)

@@ -1,24 +1,41 @@
--- `TernarySampler::sample_to_u64` draws by the sampler's rule, after 22 and 6: a return for each kind of sampler.
-use mathlib.Core.Path.{_≡_, refl, sym}
-use mathlib.Core.List.{map}
+-- `TernarySampler::sample_to_u64` draws by the sampler's plan.
+use mathlib.Core.Path.{refl, sym, ap, _∙_}
 use native.Mathlib.Nat.{sub-zero}
-use Rattle.distr.specs.Encoding.{encodeWith}
-use Rattle.ternary.specs.Sampler.{valueOf, samplerRule}
-use Rattle.ternary.proofs.Drawn.{draw-constant}
-use Rattle.ternary.proofs.Values.{draw-nonzero, draw-general}
+use lib.ListN.{length, replicate}
 use borrow.Author.Needs.{needs}
-use Rattle.distr.proofs.Drawing.{rule-past-end, rule-too-long}
+use borrow.Author.Tests.{not-true, not-false}
+use Rattle.distr.specs.Encoding.{encodeWith}
+use Rattle.ternary.proofs.Plans.{plan-enough, plan-cleared, plan-refused, plan-constant, plan-read}
 use Rattle.ternary.proofs.ternary.TernarySampler.sample_to_u64.Statement.{statement}
 use Rattle.ternary.proofs.ternary.TernarySampler.sample_to_u64.Tie as tie
 
+plan-of-requires : tie.Need-plan-of-requires
+plan-of-requires c κs = search needs
+
+answer-of-requires : tie.Need-answer-of-requires
+answer-of-requires c κs = search needs
+
+clear-u64-requires : tie.Need-clear-u64-requires
+clear-u64-requires c κs = search needs
+
+same-length : tie.Need-same-length
+same-length c = search needs
+
 returns : tie.Need-returns
-returns c = sym (rule-past-end _ 0 _ _ _ _ (c .if1 .taken))
+returns c =
+    let start = c .before .before .before .before .before .before .before .before .before .before in
+    let a = start .args in
+    let plan = c .before .before .before .before .before .before .before .plan-of in
+    plan-cleared (encodeWith (a .minus-one)) (a .words .now) (a .place) (a .output .now) (a .self) (plan .ensures) (c .before .before .before .before .before .before .answer-of .ensures)
+    (c .before .before .before .before .if1 .taken) (c .before .before .clear-u64 .ensures)
 
 returns-2 : tie.Need-returns-2
-returns-2 c = sym (rule-too-long _ 0 _ _ _ _ (c .before .if1 .left) (c .if2 .taken))
-
-enum-known-self : tie.Need-enum-known-self
-enum-known-self c = search needs
+returns-2 c =
+    let start = c .before .before .before .before .before .before .before .before in
+    let a = start .args in
+    let plan = c .before .before .before .before .before .plan-of in
+    plan-refused (encodeWith (a .minus-one)) (a .words .now) (a .place) (a .output .now) (a .self) (plan .ensures) (c .before .before .before .before .answer-of .ensures)
+    (c .before .before .if1 .left) (c .if2 .taken) refl
 
 encoded-u64-requires : tie.Need-encoded-u64-requires
 encoded-u64-requires c κs = search needs
@@ -26,83 +43,61 @@ encoded-u64-requires c κs = search needs
 fill-u64-requires : tie.Need-fill-u64-requires
 fill-u64-requires c κs = search needs
 
-enum-known-self-2 : tie.Need-enum-known-self-2
-enum-known-self-2 c = search needs
-
-draw-u64-requires : tie.Need-draw-u64-requires
-draw-u64-requires c κs = search needs
-
-enum-known-self-3 : tie.Need-enum-known-self-3
-enum-known-self-3 c = search needs
-
-draw-u64-requires-2 : tie.Need-draw-u64-requires-2
-draw-u64-requires-2 c κs = search needs
-
-same-length : tie.Need-same-length
-same-length c = search needs
-
-returns-3 : tie.Need-returns-3
-unfolding samplerRule
-returns-3 c =
-    let start = c .before .before .before .before .before .before .before .before .before .before .before .before in
-    let encode = encodeWith (start .args .minus-one) in
-    let given = c .before .before .before .before .before .before .self .given in
-    let value : encode (valueOf (given .0 .0)) ≡ c .before .before .before .encoded-u64 .result =
-    sym (c .before .before .before .encoded-u64 .ensures) in
-    rw (given .1, c .before .before .fill-u64 .ensures)
-    (draw-constant (map encode) encode (λ cs. refl) (start .args .words .now) (start .args .place) (start .args .output .now)
-    (c .before .before .before .before .before .before .before .before .before .if1 .left)
-    (c .before .before .before .before .before .before .before .before .if2 .left)
-    (valueOf (given .0 .0)) _ value)
-
 same-length-2 : tie.Need-same-length-2
 same-length-2 c = search needs
 
-returns-4 : tie.Need-returns-4
-returns-4 c =
-    let start = c .before .before .before .before .before .before .before .before .before .before .before .before in
-    let encode = encodeWith (start .args .minus-one) in
-    let ends = c .before .before .before .before .before .before .self2 .given in
-    rw (ends .1, c .before .before .draw-u64 .ensures)
-    (draw-nonzero (map encode) encode (λ cs. refl) (start .args .words .now) (start .args .place) (start .args .output .now)
-    (c .before .before .before .before .before .before .before .before .before .if1 .left)
-    (c .before .before .before .before .before .before .before .before .if2 .left)
-    0 (λ i. c .before .before .before .before .before .before .before .before .before .before .shared-slice-known .given i .fits)
-    (ends .0 .0) (start .args .minus-one)
-    (sub-zero (start .args .minus-one)))
+returns-3 : tie.Need-returns-3
+returns-3 c =
+    let start = c .before .before .before .before .before .before .before .before .before .before .before .before .before .before .before in
+    let a = start .args in
+    let plan = c .before .before .before .before .before .before .before .before .before .before .before .before .plan-of in
+    plan-constant (encodeWith (a .minus-one)) (a .words .now) (a .place) (a .output .now) (a .self) (plan .ensures) (c .before .before .before .before .before .before .before .before .before .before .before .answer-of .ensures)
+    (c .before .before .before .before .before .before .before .if2 .left) (not-true (plan .result .reads) (c .before .before .before .before .before .if3 .taken))
+    (c .before .before .fill-u64 .ensures ∙ ap (replicate (length (a .output .now))) (c .before .before .before .encoded-u64 .ensures))
+
+cast-t22 : tie.Need-cast-t22
+cast-t22 c = search needs
+
+cast-t23 : tie.Need-cast-t23
+cast-t23 c = search needs
+
+pick-u64-requires : tie.Need-pick-u64-requires
+pick-u64-requires c κs =
+    let a = c .before .before .before .before .before .before .before .before .before .before .before .before .before .before .args in
+    let plan = c .before .before .before .before .before .before .before .before .before .before .before .plan-of in
+    plan-enough (encodeWith (a .minus-one)) (a .words .now) (a .place) (a .output .now) (a .self) (plan .ensures) (c .before .before .before .before .before .before .before .before .before .before .answer-of .ensures)
+    (c .before .before .before .before .before .before .if2 .left) (not-false (plan .result .reads) (c .before .before .before .before .if3 .left))
 
 same-length-3 : tie.Need-same-length-3
 same-length-3 c = search needs
 
-returns-5 : tie.Need-returns-5
-returns-5 c =
-    let start = c .before .before .before .before .before .before .before .before .before .before .before .before in
-    let encode = encodeWith (start .args .minus-one) in
-    let ends = c .before .before .before .before .before .before .self3 .given in
-    rw (ends .1, c .before .before .draw-u642 .ensures)
-    (draw-general (map encode) encode (λ cs. refl) (start .args .words .now) (start .args .place) (start .args .output .now)
-    (c .before .before .before .before .before .before .before .before .before .if1 .left)
-    (c .before .before .before .before .before .before .before .before .if2 .left)
-    0 (λ i. c .before .before .before .before .before .before .before .before .before .before .shared-slice-known .given i .fits)
-    (ends .0 .0) (ends .0 .1 .0) (start .args .minus-one)
-    (sub-zero (start .args .minus-one)))
+returns-4 : tie.Need-returns-4
+returns-4 c =
+    let start = c .before .before .before .before .before .before .before .before .before .before .before .before .before .before .before .before .before in
+    let a = start .args in
+    let plan = c .before .before .before .before .before .before .before .before .before .before .before .before .before .before .plan-of in
+    plan-read (encodeWith (a .minus-one)) (a .words .now) (a .place) (a .output .now) (a .self) (plan .ensures) (c .before .before .before .before .before .before .before .before .before .before .before .before .before .answer-of .ensures)
+    (c .before .before .before .before .before .before .before .before .before .if2 .left) (not-false (plan .result .reads) (c .before .before .before .before .before .before .before .if3 .left))
+    (λ i. c .before .before .before .before .before .before .before .before .before .before .before .before .before .before .before .shared-slice-known .given i .fits)
+    (sym (sub-zero (a .minus-one))) refl refl
+    (c .before .before .pick-u64 .ensures)
 
 pub sample-to-u64-spec : {M : Type 1} → statement M
 sample-to-u64-spec =
     tie.close
     (tie.spec
+    plan-of-requires
+    answer-of-requires
+    clear-u64-requires
+    same-length
     returns
     returns-2
-    enum-known-self
     encoded-u64-requires
     fill-u64-requires
-    enum-known-self-2
-    draw-u64-requires
-    enum-known-self-3
-    draw-u64-requires-2
-    same-length
-    returns-3
     same-length-2
-    returns-4
+    returns-3
+    cast-t22
+    cast-t23
+    pick-u64-requires
     same-length-3
-    returns-5)
+    returns-4)
