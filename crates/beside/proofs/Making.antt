@@ -1,110 +1,109 @@
--- A call that makes its sampler: making that is refused, and the draw of the sampler that is made.
+-- A call's number and draw by the sampler that is made are those of what its kind names.
 use Prim.Native.Nat.{ℕ}
 use mathlib.Core.Path.{_≡_, refl, sym, _∙_, ap}
 use mathlib.Core.Bool.{Bool, true, false}
 use mathlib.Core.List.{List}
-use lib.Dec.{T, eqb}
+use lib.Dec.{eqb}
 use borrow.Author.Tests.{eqb-true, eqb-false, eq-eqb, ne-eqb}
+use Rattle.distr.specs.Distribution.{Distr, secret, error}
+use Rattle.distr.specs.Draw.{Outcome}
 use Rattle.distr.specs.declared.secret_key_distr.SecretKeyDistr.{SecretKeyDistr}
 use Rattle.distr.specs.declared.error_distribution.ErrorDistribution.{ErrorDistribution}
-use Rattle.distr.specs.Distribution.{Distr, secret, error}
-use Rattle.distr.specs.Draw.{Outcome, judged}
-use Rattle.distr.specs.Making.{secretNumber, errorNumber, makingNumber}
 use Rattle.secret_key_sampler.specs.declared.MadeSampler.{MadeSampler}
 use Rattle.secret_key_sampler.specs.Sampler.{making, isMade}
-use Rattle.secret_key_sampler.proofs.Made.{some-made}
+use Rattle.secret_key_sampler.proofs.Calls.{made-number, made-refused, made-drawn}
 use Rattle.error_sampler.specs.declared.MadeSampler.{MadeSampler as MadeError}
 use Rattle.error_sampler.specs.Sampler.{making as makingError, isMade as isMadeError}
-use Rattle.error_sampler.proofs.Made.{some-made as some-made-error}
+use Rattle.error_sampler.proofs.Calls.{made-number as error-number, made-refused as error-call-refused, made-drawn as error-call-drawn}
 use Rattle.beside.specs.declared.kind.Named.{Named}
-use Rattle.beside.specs.Calls.{madeNumber, madeDraw, called, calledRows, refusedKey}
+use Rattle.beside.specs.declared.kind.Named.the-variants as Kind
+use Rattle.beside.specs.declared.make.Made.{Made}
+use Rattle.beside.specs.declared.make.Made.the-variants.{Key, Error, Refused}
+use Rattle.beside.specs.Calls.{madeNumber, called}
+use Rattle.beside.specs.Made.{keyOrNumber, errorOrNumber, keyMade, errorMade, madeOf}
 
--- a test that holds came out true
-came-true : (b : Bool) → T b → b ≡ true
-came-true true h = refl
-came-true false h = absurd h
+-- The number of a sampler that is made is 0.
+abbrev pub numberOf : Made → ℕ
+numberOf (Key s) = 0
+numberOf (Error s) = 0
+numberOf (Refused number) = number
 
-module _ {A : Type 0} (place : ℕ) (out : List A) where
-  -- a number of making that is not 0 is the answer
-  refused-call : (draw : Distr → Outcome A) (d : Distr) (number : ℕ) → number ≡ makingNumber d → (number ≡ 0 → ⊥)
-      → record { number = number; place = place; output = out } ≡ madeDraw draw place out d
-  unfolding madeDraw judged
-  refused-call draw d number e never = rw (← e, ne-eqb number 0 never)
+-- The draw of a sampler that is made, or the refusal.
+abbrev pub drawnBy : {A : Type 0} → (Bool → Distr → Outcome A) → ℕ → List A → Made → Outcome A
+drawnBy draw place out (Key s) = draw (isMade s) (secret (s .distr))
+drawnBy draw place out (Error s) = draw (isMadeError s) (error (s .distribution))
+drawnBy draw place out (Refused number) = record { number = number; place = place; output = out }
 
-  -- else the sampler that is made draws
-  made-call : (draw : Bool → Distr → Outcome A) (d own : Distr) (made : Bool) → makingNumber d ≡ 0 → made ≡ true → own ≡ d
-      → draw made own ≡ madeDraw (draw true) place out d
-  unfolding madeDraw judged
-  made-call draw d own made z m e = rw (z, m, e)
-
--- The number that making a key's sampler gives.
-pub key-number : (d : SecretKeyDistr) (m : MadeSampler) → m ≡ making d → m .number ≡ secretNumber d
-key-number d m h = go (eqb (secretNumber d) 0) refl
+key-own-number : (d : SecretKeyDistr) → numberOf (keyMade d) ≡ making d .number
+unfolding keyMade
+key-own-number d = go (eqb (making d .number) 0) refl
   where
-    go : (b : Bool) → eqb (secretNumber d) 0 ≡ b → m .number ≡ secretNumber d
-    go true e = ap (λ (r : MadeSampler). r .number) (rw e at h) ∙ sym (eqb-true (secretNumber d) 0 e)
-    go false e = ap (λ (r : MadeSampler). r .number) (rw e at h)
+    go : (b : Bool) → eqb (making d .number) 0 ≡ b → numberOf (keyMade d) ≡ making d .number
+    go true e = rw e (sym (eqb-true (making d .number) 0 e))
+    go false e = rw e
 
-pub error-number : (d : ErrorDistribution) (m : MadeError) → m ≡ makingError d → m .number ≡ errorNumber d
-error-number d m h = go (eqb (errorNumber d) 0) refl
+error-own-number : (d : ErrorDistribution) → numberOf (errorMade d) ≡ makingError d .number
+unfolding errorMade
+error-own-number d = go (eqb (makingError d .number) 0) refl
   where
-    go : (b : Bool) → eqb (errorNumber d) 0 ≡ b → m .number ≡ errorNumber d
-    go true e = ap (λ (r : MadeError). r .number) (rw e at h) ∙ sym (eqb-true (errorNumber d) 0 e)
-    go false e = ap (λ (r : MadeError). r .number) (rw e at h)
+    go : (b : Bool) → eqb (makingError d .number) 0 ≡ b → numberOf (errorMade d) ≡ makingError d .number
+    go true e = rw e (sym (eqb-true (makingError d .number) 0 e))
+    go false e = rw e
 
--- A sampler that is made keeps its distribution.
-key-distr : (d : SecretKeyDistr) (m : MadeSampler) → m ≡ making d → secretNumber d ≡ 0 → m .sampler .distr ≡ d
-key-distr d m h z = ap (λ (r : MadeSampler). r .sampler .distr) (rw (eq-eqb (secretNumber d) 0 z) at h)
+number-made : (n : Named) → numberOf (madeOf n) ≡ madeNumber n
+unfolding madeOf madeNumber
+number-made (Kind.Key d) = key-own-number d ∙ made-number d (making d) refl
+number-made (Kind.Error d) = error-own-number d ∙ error-number d (makingError d) refl
+number-made Kind.Unnamed = refl
 
-error-distr : (d : ErrorDistribution) (m : MadeError) → m ≡ makingError d → errorNumber d ≡ 0 → m .sampler .distribution ≡ d
-error-distr d m h z = ap (λ (r : MadeError). r .sampler .distribution) (rw (eq-eqb (errorNumber d) 0 z) at h)
+module _ {A : Type 0} (draw : Bool → Distr → Outcome A) (place : ℕ) (out : List A) where
+  draw-made : (n : Named) → drawnBy draw place out (madeOf n) ≡ called (draw true) place out n
+  unfolding madeOf keyMade errorMade called
+  draw-made (Kind.Key d) = go (eqb (making d .number) 0) refl
+    where
+      go : (b : Bool) → eqb (making d .number) 0 ≡ b → drawnBy draw place out (keyMade d) ≡ called (draw true) place out (Kind.Key d)
+      go true e = rw e (made-drawn d (making d) refl place out draw (eqb-true (making d .number) 0 e))
+      go false e = rw e (made-refused d (making d) refl place out (draw true (secret d)) (eqb-false (making d .number) 0 e))
+  draw-made (Kind.Error d) = go (eqb (makingError d .number) 0) refl
+    where
+      go : (b : Bool) → eqb (makingError d .number) 0 ≡ b → drawnBy draw place out (errorMade d) ≡ called (draw true) place out (Kind.Error d)
+      go true e = rw e (error-call-drawn d (makingError d) refl place out draw (eqb-true (makingError d .number) 0 e))
+      go false e = rw e (error-call-refused d (makingError d) refl place out (draw true (error d)) (eqb-false (makingError d .number) 0 e))
+  draw-made Kind.Unnamed = refl
 
-module _ {A : Type 0} (place : ℕ) (out : List A) where
-  module _ (d : SecretKeyDistr) (m : MadeSampler) (h : m ≡ making d) where
-    pub key-refused : (draw : Distr → Outcome A) → (m .number ≡ 0 → ⊥)
-        → record { number = m .number; place = place; output = out } ≡ madeDraw draw place out (secret d)
-    unfolding makingNumber
-    key-refused draw never = refused-call place out draw (secret d) (m .number) (key-number d m h) never
+  -- What was found is told by its variant, and is what the kind's name makes.
+  pub told-draw : {found told : Made} (n : Named) → found ≡ told → found ≡ madeOf n → drawnBy draw place out told ≡ called (draw true) place out n
+  told-draw n e h = ap (drawnBy draw place out) (sym e ∙ h) ∙ draw-made n
 
-    pub key-made : (draw : Bool → Distr → Outcome A) → m .number ≡ 0
-        → draw (isMade (m .sampler)) (secret (m .sampler .distr)) ≡ madeDraw (draw true) place out (secret d)
-    unfolding makingNumber
-    key-made draw z =
-        let zero : secretNumber d ≡ 0 = sym (key-number d m h) ∙ z in
-        made-call place out draw (secret d) _ _ zero
-        (came-true _ (some-made (m .sampler) d (sym h ∙ ap (λ n. record { number = n; sampler = m .sampler }) z)))
-        (ap secret (key-distr d m h zero))
+pub told-number : {found told : Made} (n : Named) → found ≡ told → found ≡ madeOf n → numberOf told ≡ madeNumber n
+told-number n e h = ap numberOf (sym e ∙ h) ∙ number-made n
 
-  module _ (d : ErrorDistribution) (m : MadeError) (h : m ≡ makingError d) where
-    pub error-refused : (draw : Distr → Outcome A) → (m .number ≡ 0 → ⊥)
-        → record { number = m .number; place = place; output = out } ≡ madeDraw draw place out (error d)
-    unfolding makingNumber
-    error-refused draw never = refused-call place out draw (error d) (m .number) (error-number d m h) never
+pub named-made : {found told wanted : Named} → found ≡ told → found ≡ wanted → madeOf told ≡ madeOf wanted
+named-made e h = ap madeOf (sym e ∙ h)
 
-    pub error-made : (draw : Bool → Distr → Outcome A) → m .number ≡ 0
-        → draw (isMadeError (m .sampler)) (error (m .sampler .distribution)) ≡ madeDraw (draw true) place out (error d)
-    unfolding makingNumber
-    error-made draw z =
-        let zero : errorNumber d ≡ 0 = sym (error-number d m h) ∙ z in
-        made-call place out draw (error d) _ _ zero
-        (came-true _ (some-made-error (m .sampler) d (sym h ∙ ap (λ n. record { number = n; sampler = m .sampler }) z)))
-        (ap error (error-distr d m h zero))
+-- What making hands back, by its number.
+module _ (d : SecretKeyDistr) (m : MadeSampler) (h : m ≡ making d) where
+  pub key-refused : (m .number ≡ 0 → ⊥) → Refused (m .number) ≡ keyMade d
+  unfolding keyMade
+  key-refused never =
+      let own : Refused (m .number) ≡ keyOrNumber m = rw (ne-eqb (m .number) 0 never) in
+      own ∙ ap keyOrNumber h
 
--- A key's number in a CRT draw.
-pub key-number-other : (d : SecretKeyDistr) (m : MadeSampler) → m ≡ making d → (m .number ≡ 0 → ⊥) → m .number ≡ refusedKey d
-key-number-other d m h never = let e = key-number d m h in rw (← e, ne-eqb (m .number) 0 never)
+  pub key-made : m .number ≡ 0 → Key (m .sampler) ≡ keyMade d
+  unfolding keyMade
+  key-made z =
+      let own : Key (m .sampler) ≡ keyOrNumber m = rw (eq-eqb (m .number) 0 z) in
+      own ∙ ap keyOrNumber h
 
-pub key-number-zero : (d : SecretKeyDistr) (m : MadeSampler) → m ≡ making d → m .number ≡ 0 → 21 ≡ refusedKey d
-key-number-zero d m h z = let e = key-number d m h in rw (← e, z)
+module _ (d : ErrorDistribution) (m : MadeError) (h : m ≡ makingError d) where
+  pub error-refused : (m .number ≡ 0 → ⊥) → Refused (m .number) ≡ errorMade d
+  unfolding errorMade
+  error-refused never =
+      let own : Refused (m .number) ≡ errorOrNumber m = rw (ne-eqb (m .number) 0 never) in
+      own ∙ ap errorOrNumber h
 
--- What a kind names decides the number and the draw.
-pub named-number : {found told wanted : Named} → found ≡ told → found ≡ wanted → madeNumber told ≡ madeNumber wanted
-named-number e h = ap madeNumber (sym e ∙ h)
-
-pub named-call : {A : Type 0} (draw : Distr → Outcome A) (place : ℕ) (out : List A) {found told wanted : Named} → found ≡ told → found ≡ wanted
-    → called draw place out told ≡ called draw place out wanted
-named-call draw place out e h = ap (called draw place out) (sym e ∙ h)
-
-pub named-rows : {A : Type 0} (draw : Distr → Outcome A) (place : ℕ) (out : List A) {found told wanted : Named} → found ≡ told → found ≡ wanted
-    → calledRows draw place out told ≡ calledRows draw place out wanted
-named-rows draw place out e h = ap (calledRows draw place out) (sym e ∙ h)
+  pub error-made : m .number ≡ 0 → Error (m .sampler) ≡ errorMade d
+  unfolding errorMade
+  error-made z =
+      let own : Error (m .sampler) ≡ errorOrNumber m = rw (eq-eqb (m .number) 0 z) in
+      own ∙ ap errorOrNumber h

@@ -2,10 +2,9 @@
 use Prim.Native.Nat.{ℕ}
 use mathlib.Core.Bool.{cond}
 use mathlib.Core.List.{List, [], _∷_}
-use lib.Dec.{eqb, leb}
+use lib.Dec.{leb}
 use lib.ListN.{getD}
 use lib.Ieee.{Float}
-use Rattle.distr.specs.declared.secret_key_distr.SecretKeyDistr.{SecretKeyDistr}
 use Rattle.distr.specs.declared.secret_key_distr.SecretKeyDistr.the-variants.{UniformBinary, Binary, SparseTernary, UniformTernary, Ternary}
 use Rattle.distr.specs.declared.secret_key_distr.SecretKeyDistr.the-variants.{FixedHammingWeightBinary, BlockBinary, FixedHammingWeightTernary}
 use Rattle.distr.specs.declared.secret_key_distr.SecretKeyDistr.the-variants.{FixedCompositionTernary, Gaussian}
@@ -13,7 +12,7 @@ use Rattle.distr.specs.declared.secret_key_distr.BlockOccupancy.the-variants.{A
 use Rattle.distr.specs.declared.error_distribution.ErrorDistribution.the-variants.{CenteredBinomial, Gaussian as ErrorGaussian}
 use Rattle.distr.specs.Distribution.{Distr, secret, error}
 use Rattle.distr.specs.Draw.{Outcome, judged}
-use Rattle.distr.specs.Making.{secretNumber, makingNumber}
+use Rattle.distr.specs.Making.{makingNumber}
 use Rattle.beside.specs.declared.kind.Named.{Named}
 use Rattle.beside.specs.declared.kind.Named.the-variants.{Key, Error, Unnamed}
 
@@ -46,7 +45,7 @@ madeNumber (Error d) = makingNumber (error d)
 madeNumber Unnamed = 14
 
 -- A call's draw by a distribution: the number of making it where that is not 0, else the draw of the sampler that is made.
-unfoldable pub madeDraw : {A : Type 0} → (Distr → Outcome A) → ℕ → List A → Distr → Outcome A
+abbrev pub madeDraw : {A : Type 0} → (Distr → Outcome A) → ℕ → List A → Distr → Outcome A
 madeDraw draw place out d = judged (makingNumber d) place out (draw d)
 
 unfoldable pub called : {A : Type 0} → (Distr → Outcome A) → ℕ → List A → Named → Outcome A
@@ -57,12 +56,3 @@ called draw place out Unnamed = record { number = 14; place = place; output = ou
 -- The answer of a call: its number, the place that it writes and what its output holds then.
 abbrev pub answered : {A : Type 0} → ℕ → ℕ → List A → Outcome A
 answered number place output = record { number = number; place = place; output = output }
-
--- A key's number where rows of several moduli are asked for, which its sampler does not draw: that of making it, else 21.
-abbrev pub refusedKey : SecretKeyDistr → ℕ
-refusedKey d = cond (eqb (secretNumber d) 0) 21 (secretNumber d)
-
-unfoldable pub calledRows : {A : Type 0} → (Distr → Outcome A) → ℕ → List A → Named → Outcome A
-calledRows draw place out (Key d) = record { number = refusedKey d; place = place; output = out }
-calledRows draw place out (Error d) = madeDraw draw place out (error d)
-calledRows draw place out Unnamed = record { number = 14; place = place; output = out }

@@ -1,2 +1,3 @@
 -- What the calls beside the Rust answer, by the definitions.
 pub mod Calls
+pub mod Made

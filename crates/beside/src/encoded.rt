@@ -1,91 +1,13 @@
 // The call that draws residues of one modulus.
-use crate::kind::Named;
-use crate::kind::by_kind;
+use crate::make::Made;
+use crate::make::make;
 use distr::answer::Answer;
-use distr::error_distribution::ErrorDistribution;
-use distr::secret_key_distr::SecretKeyDistr;
-use error_sampler::ErrorSampler;
-use secret_key_sampler::SecretKeySampler;
 ghost use mathlib.Core.Bool.{true};
 ghost use mathlib.Core.Path.{_≡_};
-ghost use Rattle.distr.specs.Distribution.{Distr, secret, error};
-ghost use Rattle.distr.specs.Draw.{outcome, encodedDraw};
+ghost use Rattle.distr.specs.Distribution.{Distr};
+ghost use Rattle.distr.specs.Draw.{encodedDraw};
 ghost use Rattle.signed_discrete_gaussian.specs.Lent.{lent};
-ghost use Rattle.beside.specs.Calls.{answered, madeDraw, called, named};
-
-// Makes the sampler of a key and draws residues of one modulus by it.
-fn encoded_key(
-    distr: SecretKeyDistr,
-    modulus: u64,
-    bounds: &[u64],
-    endpoints: &[u64],
-    heights: &[f64],
-    curve: &[f64],
-    words: &[u32],
-    place: usize,
-    output: &mut [u64],
-) -> Answer
-    ensures { λ r. ⌜ outcome r (now (output .exit)) ≡ madeDraw (λ (d : Distr). encodedDraw true d
-        (lent (now (bounds .entry)) (now (endpoints .entry)) (now (heights .entry)) (now (curve .entry)))
-        modulus (now (words .entry)) place (now (output .entry)))
-        place (now (output .entry)) (secret distr) ⌝ }
-{
-    let made = SecretKeySampler::try_new(distr);
-    if made.number != 0 {
-        return Answer {
-            number: made.number,
-            place,
-        };
-    }
-    let sampler = made.sampler;
-    sampler.sample_encoded_to(
-        output,
-        modulus,
-        words,
-        place,
-        bounds,
-        endpoints,
-        heights,
-        curve,
-    )
-}
-
-// Makes the sampler of an error and draws residues of one modulus by it.
-fn encoded_error(
-    distr: ErrorDistribution,
-    modulus: u64,
-    bounds: &[u64],
-    endpoints: &[u64],
-    heights: &[f64],
-    curve: &[f64],
-    words: &[u32],
-    place: usize,
-    output: &mut [u64],
-) -> Answer
-    ensures { λ r. ⌜ outcome r (now (output .exit)) ≡ madeDraw (λ (d : Distr). encodedDraw true d
-        (lent (now (bounds .entry)) (now (endpoints .entry)) (now (heights .entry)) (now (curve .entry)))
-        modulus (now (words .entry)) place (now (output .entry)))
-        place (now (output .entry)) (error distr) ⌝ }
-{
-    let made = ErrorSampler::try_new(distr);
-    if made.number != 0 {
-        return Answer {
-            number: made.number,
-            place,
-        };
-    }
-    let sampler = made.sampler;
-    sampler.sample_encoded_to(
-        output,
-        modulus,
-        words,
-        place,
-        bounds,
-        endpoints,
-        heights,
-        curve,
-    )
-}
+ghost use Rattle.beside.specs.Calls.{answered, called, named};
 
 // A draw of residues of one modulus.
 #[no_mangle]
@@ -110,30 +32,28 @@ pub extern "C" fn beside_encoded(
         modulus (now (words .entry)) place (now (output .entry)))
         place (now (output .entry)) (named kind a b p q) ⌝ }
 {
-    let answer = match by_kind(kind, a, b, p, q) {
-        Named::Key(distr) => encoded_key(
-            distr,
+    let answer = match make(kind, a, b, p, q) {
+        Made::Key(sampler) => sampler.sample_encoded_to(
+            output,
             modulus,
+            words,
+            place,
             bounds,
             endpoints,
             heights,
             curve,
+        ),
+        Made::Error(sampler) => sampler.sample_encoded_to(
+            output,
+            modulus,
             words,
             place,
-            output,
-        ),
-        Named::Error(distr) => encoded_error(
-            distr,
-            modulus,
             bounds,
             endpoints,
             heights,
             curve,
-            words,
-            place,
-            output,
         ),
-        Named::Unnamed => Answer { number: 14, place },
+        Made::Refused(number) => Answer { number, place },
     };
     *new_place = answer.place;
     answer.number

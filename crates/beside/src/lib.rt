@@ -3,11 +3,12 @@
 mod crt;
 mod encoded;
 mod kind;
+mod make;
 mod signed;
 
-use error_sampler::ErrorSampler;
-use kind::Named;
-use secret_key_sampler::SecretKeySampler;
+pub use crt::beside_crt;
+pub use encoded::beside_encoded;
+use make::Made;
 ghost use mathlib.Core.Path.{_≡_};
 ghost use Rattle.beside.specs.Calls.{madeNumber, named};
 
@@ -16,15 +17,9 @@ ghost use Rattle.beside.specs.Calls.{madeNumber, named};
 pub extern "C" fn beside_make(kind: u32, a: usize, b: usize, p: f64, q: f64) -> u32
     ensures { λ r. ⌜ r ≡ madeNumber (named kind a b p q) ⌝ }
 {
-    match kind::by_kind(kind, a, b, p, q) {
-        Named::Key(distr) => {
-            let made = SecretKeySampler::try_new(distr);
-            made.number
-        }
-        Named::Error(distr) => {
-            let made = ErrorSampler::try_new(distr);
-            made.number
-        }
-        Named::Unnamed => 14,
+    match make::make(kind, a, b, p, q) {
+        Made::Key(_) => 0,
+        Made::Error(_) => 0,
+        Made::Refused(number) => number,
     }
 }

@@ -21,14 +21,14 @@ pub(crate) fn unsigned(value: u64) {
     io::print_decimal(STDOUT_FILENO, value);
 }
 
-// A space and a signed number. The magnitude of a negative one is !value + 1, where no step overflows.
+// A space and a signed number.
 fn signed(value: i64) {
     if value < 0 {
         io::write_all(STDOUT_FILENO, b" -");
-        io::print_decimal(STDOUT_FILENO, (!value) as u64 + 1);
-        return;
+    } else {
+        io::write_all(STDOUT_FILENO, b" ");
     }
-    unsigned(value as u64);
+    io::print_decimal(STDOUT_FILENO, sheet::magnitude(value));
 }
 
 // A whole line of a signed draw.

@@ -7,3 +7,4 @@ pub mod Methods
 pub mod EncodedDraws
 pub mod CrtDraws
 pub mod Secrets
+pub mod Calls

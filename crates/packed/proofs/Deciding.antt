@@ -1,12 +1,10 @@
 -- The whole answer of a draw by one rule: refused early, short of words, or drawn, over how the output holds coefficients.
 use mathlib.Core.Path.{_≡_, refl, sym, ap, ap₂, _∙_}
-use mathlib.Core.Bool.{Bool, true, false}
 use mathlib.Core.List.{List, [], _∷_, _++_, map}
 use Prim.Native.Nat.{ℕ, zero, suc, _+_, _-_, _*_, _/_, _%_, _<_, _≤_}
 use native.Mathlib.Nat.{mod-lt, sub-zero}
 use native.Mathlib.Omega.{arith}
-use borrow.Author.Tests.{ltb-false, le-leb, lt-leb, ne-eqb}
-use lib.Dec.{ltb}
+use borrow.Author.Tests.{le-leb, lt-leb}
 use lib.ListN.{length, take, drop, replicate, length-drop}
 use lib.IntN.{ℤ, pos, +ℤ-idr}
 use Rattle.distr.specs.Words.{Read, got, short, mapRead}
@@ -14,27 +12,13 @@ use Rattle.distr.specs.Rule.{Rule, readBy}
 use Rattle.distr.specs.Packed.{digits, split, packed, minusOne}
 use Rattle.distr.specs.UniformTernary.{bytes, uniformTernary, tritValue}
 use Rattle.distr.specs.Encoding.{encodeWith, signedWith}
-use Rattle.distr.specs.Numbers.{firstOf, pastEnd, tooLong}
-use Rattle.distr.specs.Draw.{judged, ruleDraw}
+use Rattle.distr.specs.Draw.{ruleDraw}
 use Rattle.distr.proofs.Reading.{many-word}
 use Rattle.distr.proofs.Writing.{map-append, map-map, map-replicate, map-take}
 use Rattle.distr.proofs.Drawing.{rule-got, rule-short}
+use Rattle.words.proofs.Refusing.{earlyNumber, early-passed, rule-refused}
+use Rattle.packed.specs.Serving.{Serves}
 use Rattle.packed.proofs.Packing.{enough}
-
--- The numbers tried before a draw looks at its words.
-abbrev pub earlyNumber : ℕ → ℕ → ℕ → ℕ
-earlyNumber count place n = firstOf (pastEnd count place ∷ tooLong n ∷ 0 ∷ [])
-
--- 0 says that the place and the length are good
-pub early-passed : (count place n : ℕ) {k : ℕ} → k ≡ earlyNumber count place n → k ≡ 0 → (place ≤ count) × (n ≤ 65536)
-unfolding firstOf
-early-passed count place n {k} e z = go (ltb count place) (ltb 65536 n) refl refl
-  where
-    go : (a b : Bool) → ltb count place ≡ a → ltb 65536 n ≡ b → (place ≤ count) × (n ≤ 65536)
-    go true true p q = let twenty-two : k ≡ 22 = rw p at e in omega arith
-    go true false p q = let twenty-two : k ≡ 22 = rw p at e in omega arith
-    go false true p q = let six : k ≡ 6 = rw (p, q) at e in omega arith
-    go false false p q = (ltb-false count place p, ltb-false 65536 n q)
 
 -- the table's entries are the values of digits below the base
 module _ {A : Type 0} (base : ℕ) (g h : ℕ → A) (positive : 0 < base) (same : (d : ℕ) → d < base → g d ≡ h d) where
@@ -57,12 +41,6 @@ module _ {A : Type 0} (base : ℕ) (g h : ℕ → A) (positive : 0 < base) (same
 
 module _ {A : Type 0} (write : List ℤ → List A) (f : ℤ → A) (writes : (cs : List ℤ) → write cs ≡ map f cs)
     (rule : Rule) (words : List ℕ) (place : ℕ) (out : List A) where
-  -- 22 or 6: nothing changes
-  pub refused : {k : ℕ} → k ≡ earlyNumber (length words) place (length out) → (k ≡ 0 → ⊥)
-      → record { number = k; place = place; output = out } ≡ ruleDraw write 0 rule words place out
-  unfolding ruleDraw judged
-  refused {k} e ne = rw (← e, ne-eqb k 0 ne)
-
   module _ {k : ℕ} (early : k ≡ earlyNumber (length words) place (length out)) (good : k ≡ 0) where
     -- 23: the place stays, and the output is zeros
     pub lacking : {out′ : List A} → readBy rule (drop place words) ≡ short → out′ ≡ replicate (length out) (f (pos 0))
@@ -80,35 +58,44 @@ module _ {A : Type 0} (write : List ℤ → List A) (f : ℤ → A) (writes : (c
         ap₂ (λ (j : ℕ) (l : List A). record { number = 0; place = j; output = l }) p (o ∙ sym (writes cs))
         ∙ sym (rule-got write 0 rule words place out (passed .0) (passed .1) refl cs rest e)
 
--- Draws packed into m words: the test of their number decides.
-module _ {A : Type 0} (write : List ℤ → List A) (f : ℤ → A) (writes : (cs : List ℤ) → write cs ≡ map f cs)
-    (base each m : ℕ) (value : ℕ → ℤ) (words : List ℕ) (place : ℕ) (out : List A)
-    {k : ℕ} (early : k ≡ earlyNumber (length words) place (length out)) (good : k ≡ 0) where
-  pub packed-lacking : {needed : ℕ} {out′ : List A} → needed ≡ m → length words - place < needed → out′ ≡ replicate (length out) (f (pos 0))
-      → record { number = 23; place = place; output = out′ } ≡ ruleDraw write 0 (packed base each m (length out) value) words place out
-  unfolding mapRead
-  packed-lacking e l o =
-      lacking write f writes (packed base each m (length out) value) words place out early good
-      (rw (many-word m (drop place words), lt-leb m (length (drop place words)) (rw (length-drop place words) (omega arith)))) o
+-- Draws packed into m words: the early numbers decide, and then the test of the words' number, whatever rule the entries hold the values of.
+module _ {A : Type 0} (z : A) (entry : ℕ → A) (base each m : ℕ) (words : List ℕ) (place : ℕ) (out : List A)
+    {k : ℕ} (early : k ≡ earlyNumber (length words) place (length out)) where
+  pub serves-refused : (k ≡ 0 → ⊥) → Serves z entry base each m words place out (record { number = k; place = place; output = out })
+  serves-refused some = record {
+    serves = λ write f value writes zeros agree. rule-refused write 0 (packed base each m (length out) value) words place out early some;
+  }
 
-  pub packed-reached : (entry : ℕ → A) {needed : ℕ} {out′ : List A} → 0 < base → ((d : ℕ) → d < base → entry d ≡ f (value d))
-      → needed ≡ m → needed ≤ length words - place → length out ≤ m * each → out′ ≡ map entry (take (length out) (split base each (drop place words)))
-      → record { number = 0; place = place + needed; output = out′ } ≡ ruleDraw write 0 (packed base each m (length out) value) words place out
+  pub serves-lacking : {out′ : List A} → k ≡ 0 → length words - place < m → out′ ≡ replicate (length out) z
+      → Serves z entry base each m words place out (record { number = 23; place = place; output = out′ })
   unfolding mapRead
-  packed-reached entry b agree e l fits o =
+  serves-lacking good l o = record {
+    serves = λ write f value writes zeros agree.
+        lacking write f writes (packed base each m (length out) value) words place out early good
+        (rw (many-word m (drop place words), lt-leb m (length (drop place words)) (rw (length-drop place words) (omega arith))))
+        (o ∙ ap (replicate (length out)) zeros);
+  }
+
+  pub serves-reached : {out′ : List A} → k ≡ 0 → 0 < base → m ≤ length words - place → length out ≤ m * each
+      → out′ ≡ map entry (take (length out) (split base each (drop place words)))
+      → Serves z entry base each m words place out (record { number = 0; place = place + m; output = out′ })
+  unfolding mapRead
+  serves-reached good b l fits o =
       let passed = early-passed (length words) place (length out) early good in
       let n : ℕ = length out in
       let ws : List ℕ = drop place words in
       let there : m ≤ length ws = rw (length-drop place words) (omega arith) in
-      let held : ℕ → A = λ d. f (value d) in
-      reached write f writes (packed base each m n value) words place out early good
-      (map value (take n (split base each (take m ws)))) (drop m ws)
-      (rw (many-word m ws, le-leb m (length ws) there))
-      (rw (length-drop m ws, length-drop place words) (omega arith))
-      (o
-      ∙ map-taken base entry held b agree n each ws
-      ∙ ap (map held) (sym (enough base each m n ws fits))
-      ∙ sym (map-map f value (take n (split base each (take m ws)))))
+      record {
+        serves = λ write f value writes zeros agree.
+            reached write f writes (packed base each m n value) words place out early good
+            (map value (take n (split base each (take m ws)))) (drop m ws)
+            (rw (many-word m ws, le-leb m (length ws) there))
+            (rw (length-drop m ws, length-drop place words) (omega arith))
+            (o
+            ∙ map-taken base entry (λ d. f (value d)) b agree n each ws
+            ∙ ap (map (λ d. f (value d))) (sym (enough base each m n ws fits))
+            ∙ sym (map-map f value (take n (split base each (take m ws)))));
+      }
 
 -- Trits out of bytes: where the reading of bytes stopped decides.
 module _ {A : Type 0} (write : List ℤ → List A) (f : ℤ → A) (writes : (cs : List ℤ) → write cs ≡ map f cs)

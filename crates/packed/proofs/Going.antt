@@ -12,7 +12,9 @@ use Rattle.distr.specs.Words.{Read, got, short, mapRead}
 use Rattle.distr.specs.Packed.{digits, split}
 use Rattle.distr.specs.UniformTernary.{accepted, bytes}
 use Rattle.distr.proofs.Writing.{map-append, map-take}
+use Rattle.packed.specs.Pairs.{single, Paired}
 use Rattle.packed.proofs.Storing.{length-digits}
+use Rattle.packed.proofs.Packing.{from-front}
 
 map-read : {A B C : Type 0} (g : B → C) (f : A → B) (r : Read A) → mapRead g (mapRead f r) ≡ mapRead (λ a. g (f a)) r
 unfolding mapRead
@@ -86,7 +88,10 @@ digits-more (suc left) x h =
 abbrev wanted : ℕ → ℕ
 wanted k = (k + 4) / 5
 
-module _ {A : Type 0} (value : ℕ → A) (words : List ℕ) (place : ℕ) (out₀ : List A) where
+module _ {A : Type 0} (z : A) (pairs : List A) (words : List ℕ) (place : ℕ) (out₀ : List A) where
+  abbrev value : ℕ → A
+  value = single z pairs
+
   -- what the rule gives
   abbrev pub Whole : Read (List A)
   Whole = mapRead (λ ds. map value (take (length out₀) (split 3 5 ds))) (bytes (drop place words) (wanted (length out₀)))
@@ -99,13 +104,17 @@ module _ {A : Type 0} (value : ℕ → A) (words : List ℕ) (place : ℕ) (out�
   pub record Going (out : List A) (at next rest left : ℕ) : Type 0 where
     pub sized : length out ≡ length out₀
     pub within : at ≤ length out₀
+    pub found : next ≤ length words
+    pub paired : Paired 3 z pairs
     pub same : mapRead (finished at out) (bytesFrom (digits 256 left rest) (drop next words) (wanted (length out₀ - at))) ≡ Whole
 
-  pub going-none : Going out₀ 0 place 0 0
+  pub going-none : place ≤ length words → Paired 3 z pairs → Going out₀ 0 place 0 0
   unfolding digits
-  going-none = record {
+  going-none h p = record {
     sized = refl;
     within = omega arith;
+    found = h;
+    paired = p;
     same =
         ap (mapRead (finished 0 out₀)) (from-words (drop place words) (wanted (length out₀ - 0)))
         ∙ ap (λ (k : ℕ). mapRead (λ ds. map value (take k (split 3 5 ds))) (bytes (drop place words) (wanted k))) (sub-zero (length out₀));
@@ -114,19 +123,21 @@ module _ {A : Type 0} (value : ℕ → A) (words : List ℕ) (place : ℕ) (out�
   -- a word is read
   pub going-word : {out : List A} {at next rest left : ℕ} → at < length out₀ → left ≡ 0 → next < length words → Going out at next rest left
       → Going out at (next + 1) (getD words next 0) 4
-  going-word {out} {at} {next} {rest} h z l s =
+  going-word {out} {at} {next} {rest} h none l s =
       let m : ℕ = (length out₀ - at - 1) / 5 in
       let more : wanted (length out₀ - at) ≡ suc m = omega arith in
       let w : ℕ = getD words next 0 in
       record {
         sized = s .sized;
         within = s .within;
+        found = omega arith;
+        paired = s .paired;
         same =
             ap (mapRead (finished at out))
             (ap₂ (λ (j k : ℕ). bytesFrom (digits 256 4 w) (drop j words) k) (add-one next) more
             ∙ sym (from-next w (drop (suc next) words) m)
             ∙ ap₂ (λ (ws : List ℕ) (k : ℕ). bytesFrom [] ws k) (sym (drop-cons words next 0 l)) (sym more)
-            ∙ ap (λ (ds : List ℕ). bytesFrom ds (drop next words) (wanted (length out₀ - at))) (sym (digits-none rest z)))
+            ∙ ap (λ (ds : List ℕ). bytesFrom ds (drop next words) (wanted (length out₀ - at))) (sym (digits-none rest none)))
             ∙ s .same;
       }
 
@@ -138,6 +149,8 @@ module _ {A : Type 0} (value : ℕ → A) (words : List ℕ) (place : ℕ) (out�
       record {
         sized = s .sized;
         within = s .within;
+        found = s .found;
+        paired = s .paired;
         same =
             ap (mapRead (finished at out))
             (sym (from-skip (rest % 256) (digits 256 (left - 1) (rest / 256)) (drop next words) m l)
@@ -172,6 +185,8 @@ module _ {A : Type 0} (value : ℕ → A) (words : List ℕ) (place : ℕ) (out�
       record {
         sized = ap length o ∙ length-paste out at vs count room five ∙ s .sized;
         within = l;
+        found = s .found;
+        paired = s .paired;
         same =
             read-ext (finished (at + count) out′) (λ ds. finished at out (b ∷ ds)) stored (bytesFrom left′ ws (wanted r))
             ∙ sym (map-read (finished at out) (λ ds. b ∷ ds) (bytesFrom left′ ws (wanted r)))
@@ -193,28 +208,29 @@ module _ {A : Type 0} (value : ℕ → A) (words : List ℕ) (place : ℕ) (out�
       (λ ds. ap (λ (j : ℕ). take j (D ++ ds)) front ∙ take-append-add D ds r ∙ ap (λ (x : List ℕ). x ++ take r ds) (sym (take-all 5 D (le-of-eq five))))
       k m s o
 
-  pub going-last : {out out′ : List A} {at next rest left : ℕ} → at < length out₀ → length out₀ ≤ at + 5 → 0 < left → rest % 256 < 243
-      → Going out at next rest left
-      → out′ ≡ paste out at (map value (digits 3 5 (rest % 256))) (length out₀ - at) → Going out′ (length out₀) next (rest / 256) (left - 1)
-  going-last {at = at} {rest = rest} l l′ k m s o =
+  pub going-last : (room : List A) {out out′ part : List A} {at next rest left : ℕ} → at < length out₀ → length out₀ ≤ at + 5 → 0 < left → rest % 256 < 243
+      → Going out at next rest left → part ≡ paste room 0 (map value (digits 3 5 (rest % 256))) 5 → out′ ≡ paste out at part (length out - at)
+      → Going out′ (length out₀) next (rest / 256) (left - 1)
+  going-last room {out} {at = at} {rest = rest} l l′ k m s p o =
       let D : List ℕ = digits 3 5 (rest % 256) in
       let count : ℕ = length out₀ - at in
       let none : length out₀ - (at + count) ≡ 0 = omega arith in
       let fits : count ≤ length D = rw (length-digits 3 5 (rest % 256)) (omega arith) in
+      let five : 5 ≤ length (map value D) = le-of-eq (sym (length-map D value ∙ length-digits 3 5 (rest % 256))) in
       let end : at + count ≡ length out₀ = omega arith in
       rw end at
       (going-store count (omega arith) (omega arith) (omega arith)
       (λ ds. take-append-le count D ds fits ∙ sym (append-nil (take count D)) ∙ ap (λ (j : ℕ). take count D ++ take j ds) (sym none))
-      k m s o)
+      k m s (from-front room (map value D) out at 5 count (omega arith) five p (rw (s .sized) at o)))
 
   -- a word is missing
   pub going-short : {out : List A} {at next rest left : ℕ} → at < length out₀ → left ≡ 0 → length words ≤ next → Going out at next rest left → short ≡ Whole
   unfolding mapRead
-  going-short {out} {at} {next} {rest} h z l s =
+  going-short {out} {at} {next} {rest} h none l s =
       let m : ℕ = (length out₀ - at - 1) / 5 in
       let more : wanted (length out₀ - at) ≡ suc m = omega arith in
       sym (ap (mapRead (finished at out))
-      (ap₂ (λ (ds ws : List ℕ). bytesFrom ds ws (wanted (length out₀ - at))) (digits-none rest z) (drop-of-length-le words l)
+      (ap₂ (λ (ds ws : List ℕ). bytesFrom ds ws (wanted (length out₀ - at))) (digits-none rest none) (drop-of-length-le words l)
       ∙ ap (bytesFrom [] []) more
       ∙ from-none m))
       ∙ s .same

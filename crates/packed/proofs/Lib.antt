@@ -1,4 +1,5 @@
 -- Laws that the proofs of this crate share, over the element type of the output.
+pub mod Pairing
 pub mod Storing
 pub mod Packing
 pub mod Deciding

@@ -1,14 +1,15 @@
 -- Filling an output word by word: the digits of many words, one after the other, and the values of the first of them.
 use mathlib.Core.Path.{_≡_, refl, sym, ap, ap₂, _∙_}
 use mathlib.Core.List.{List, [], _∷_, _++_, map, append-nil}
-use Prim.Native.Nat.{ℕ, zero, suc, _+_, _*_, _<_, _≤_}
-use native.Mathlib.Nat.{zero-mul, suc-mul, add-comm, le-of-lt, mul-le-mul-right}
+use Prim.Native.Nat.{ℕ, zero, suc, _+_, _-_, _*_, _<_, _≤_}
+use native.Mathlib.Nat.{zero-mul, suc-mul, add-comm, le-of-lt, le-of-eq, mul-le-mul-right}
 use native.Mathlib.Omega.{arith}
 use lib.ListN.{length, getD, take, drop, length-append, length-drop, length-map}
-use lib.Seq.{paste, take-append-add, drop-append-add, take-append-le, take-take, take-add}
+use lib.Seq.{paste, length-paste, take-append-add, drop-append-add, take-append-le, take-take, take-add}
 use lib.Seq.{drop-drop, take-at, drop-at, drop-cons, getD-drop, length-take-le, drop-length, take-nil, drop-nil}
 use Rattle.distr.specs.Packed.{digits, split}
 use Rattle.distr.proofs.Writing.{written, map-append, map-take, map-drop}
+use Rattle.packed.specs.Pairs.{single, Paired}
 use Rattle.packed.proofs.Storing.{length-digits}
 
 module _ (base each : ℕ) where
@@ -78,23 +79,43 @@ module _ {A : Type 0} (base each : ℕ) (value : ℕ → A) (ws : List ℕ) wher
       ∙ ap (map value) (sym (drop-split base each i ws))
       ∙ map-drop value (i * each) (split base each ws))
 
-module _ {A : Type 0} (base each : ℕ) (value : ℕ → A) (words : List ℕ) (place : ℕ) (out₀ : List A) where
-  -- the values of the first p digits from a place on are written
-  pub record Filled (p : ℕ) (out : List A) : Type 0 where
-    pub holds : out ≡ written (map value (split base each (drop place words))) p out₀
+-- what is stored at the front of a part, and copied from there
+pub from-front : {A : Type 0} (room vs out : List A) (at m count : ℕ) {part out′ : List A} → count ≤ m → m ≤ length vs → part ≡ paste room 0 vs m
+    → out′ ≡ paste out at part count → out′ ≡ paste out at vs count
+from-front {A} room vs out at m count h k e f =
+    let front : take count (take m vs ++ drop (0 + m) room) ≡ take count vs =
+    take-append-le count (take m vs) (drop (0 + m) room) (rw (length-take-le m vs k) h) ∙ take-take count m vs h in
+    f ∙ ap (λ (l : List A). take at out ++ l ++ drop (at + count) out) (ap (take count) e ∙ front)
 
-  pub filled-none : Filled 0 out₀
-  filled-none = record { holds = refl }
+module _ {A : Type 0} (base each : ℕ) (z : A) (pairs : List A) (words : List ℕ) (place : ℕ) (out₀ : List A) where
+  -- the values of the first p digits from a place on are written, as the table of pairs has them
+  pub record Filled (p : ℕ) (out : List A) : Type 0 where
+    pub sized : length out ≡ length out₀
+    pub paired : Paired base z pairs
+    pub holds : out ≡ written (map (single z pairs) (split base each (drop place words))) p out₀
+
+  abbrev stored : ℕ → List A
+  stored i = map (single z pairs) (digits base each (getD words (place + i) 0))
+
+  length-stored : (i : ℕ) → length (stored i) ≡ each
+  length-stored i = length-map (digits base each (getD words (place + i) 0)) (single z pairs) ∙ length-digits base each (getD words (place + i) 0)
+
+  pub filled-none : Paired base z pairs → Filled 0 out₀
+  filled-none p = record { sized = refl; paired = p; holds = refl }
 
   -- a word's digits, or the lowest of them, more
-  pub filled-more : (i count : ℕ) {p : ℕ} {out out′ : List A} → p ≡ i * each + count → place + i < length words → count ≤ each → Filled (i * each) out
-      → out′ ≡ paste out (i * each) (map value (digits base each (getD words (place + i) 0))) count → Filled p out′
-  filled-more i count e h k s f =
+  pub filled-more : (i count : ℕ) {p : ℕ} {out out′ : List A} → p ≡ i * each + count → p ≤ length out₀ → place + i < length words → count ≤ each
+      → Filled (i * each) out → out′ ≡ paste out (i * each) (stored i) count → Filled p out′
+  filled-more i count {out = out} e r h k s f =
       let ws : List ℕ = drop place words in
+      let value : ℕ → A = single z pairs in
       let xs : List A = map value (split base each ws) in
       let vs : List A = map value (digits base each (getD ws i 0)) in
       let there : i < length ws = rw (length-drop place words) (omega arith) in
+      let n = s .sized in
       record {
+        sized = ap length f ∙ length-paste out (i * each) (stored i) count (omega arith) (rw (length-stored i) k) ∙ n;
+        paired = s .paired;
         holds =
             f
             ∙ ap₂ (λ (l : List A) (w : ℕ). paste l (i * each) (map value (digits base each w)) count) (s .holds) (sym (getD-drop place words i 0))
@@ -103,11 +124,24 @@ module _ {A : Type 0} (base each : ℕ) (value : ℕ → A) (words : List ℕ) (
             ∙ ap (λ (j : ℕ). written xs j out₀) (sym e);
       }
 
-  pub filled-all : {p : ℕ} {out : List A} → p ≡ length out₀ → Filled p out → out ≡ map value (take (length out₀) (split base each (drop place words)))
+  pub filled-all : {p : ℕ} {out : List A} → p ≡ length out₀ → Filled p out
+      → out ≡ map (single z pairs) (take (length out₀) (split base each (drop place words)))
   filled-all e s =
+      let value : ℕ → A = single z pairs in
       let xs : List A = map value (split base each (drop place words)) in
       s .holds
       ∙ ap (λ (j : ℕ). written xs j out₀) e
       ∙ ap (λ (l : List A). take (length out₀) xs ++ l) (drop-length out₀)
       ∙ append-nil (take (length out₀) xs)
       ∙ sym (map-take value (length out₀) (split base each (drop place words)))
+
+  -- the last word's digits, stored aside, and as many of them as there is room for
+  pub filled-last : (i : ℕ) (room : List A) {out out′ part : List A} → i * each ≤ length out₀ → length out₀ ≤ i * each + each → place + i < length words
+      → Filled (i * each) out → part ≡ paste room 0 (stored i) each → out′ ≡ paste out (i * each) part (length out - i * each)
+      → out′ ≡ map (single z pairs) (take (length out₀) (split base each (drop place words)))
+  filled-last i room {out} a b h s e f =
+      let count : ℕ = length out₀ - i * each in
+      let fits : each ≤ length (stored i) = le-of-eq (sym (length-stored i)) in
+      filled-all {p = length out₀} refl
+      (filled-more i count (omega arith) (omega arith) h (omega arith) s
+      (from-front room (stored i) out (i * each) each count (omega arith) fits e (rw (s .sized) at f)))

@@ -1,8 +1,9 @@
 // Binary values straight from the words.
+use crate::draws;
 use crate::needed;
-use crate::refusal;
-use crate::stores_i64;
-use crate::stores_u64;
+use crate::pairs_i64;
+use crate::pairs_u64;
+use crate::width::Width;
 use distr::answer::Answer;
 ghost use mathlib.Core.Path.{_≡_};
 ghost use mathlib.Core.List.{map};
@@ -20,23 +21,9 @@ pub fn sample_uniform_binary_values_to_i64(
     ensures { λ r. ⌜ outcome r (now (result .exit))
         ≡ ruleDraw (λ cs. cs) 0 (uniformBinary (length (now (result .entry)))) (now (words .entry)) place (now (result .entry)) ⌝ }
 {
-    let n = result.len();
-    let count = words.len();
-    let number = refusal::early_number(count, place, n);
-    if number != 0 {
-        return Answer { number, place };
-    }
-    let words_needed = needed::binary_words(n);
-    if count - place < words_needed {
-        fill::clear_i64(result);
-        return Answer { number: 23, place };
-    }
-    let table: [i64; 2] = [0, 1];
-    stores_i64::fill_bits(result, &table, words, place);
-    Answer {
-        number: 0,
-        place: place + words_needed,
-    }
+    let pairs = pairs_i64::bits(0, 1);
+    let words_needed = needed::binary_words(result.len());
+    draws::draw_i64(result, &pairs, Width::Bits, words_needed, words, place)
 }
 
 // The same for unsigned output.
@@ -48,21 +35,7 @@ pub fn sample_uniform_binary_values_to_u64(
     ensures { λ r. ⌜ outcome r (now (result .exit))
         ≡ ruleDraw (map natAbs) 0 (uniformBinary (length (now (result .entry)))) (now (words .entry)) place (now (result .entry)) ⌝ }
 {
-    let n = result.len();
-    let count = words.len();
-    let number = refusal::early_number(count, place, n);
-    if number != 0 {
-        return Answer { number, place };
-    }
-    let words_needed = needed::binary_words(n);
-    if count - place < words_needed {
-        fill::clear_u64(result);
-        return Answer { number: 23, place };
-    }
-    let table: [u64; 2] = [0, 1];
-    stores_u64::fill_bits(result, &table, words, place);
-    Answer {
-        number: 0,
-        place: place + words_needed,
-    }
+    let pairs = pairs_u64::bits(0, 1);
+    let words_needed = needed::binary_words(result.len());
+    draws::draw_u64(result, &pairs, Width::Bits, words_needed, words, place)
 }

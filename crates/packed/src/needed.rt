@@ -1,6 +1,6 @@
 // How many words a packed draw of n values takes.
 ghost use mathlib.Core.Path.{_≡_};
-ghost use Prim.Native.Nat.{_+_, _/_, _≤_};
+ghost use Prim.Native.Nat.{_+_, _/_};
 
 // Uniform binary: one after the whole ones, also where no bit of it is used.
 pub(crate) fn binary_words(n: usize) -> usize
@@ -11,16 +11,14 @@ pub(crate) fn binary_words(n: usize) -> usize
 
 // Sparse ternary: 16 two-bit groups a word.
 pub(crate) fn sparse_words(n: usize) -> usize
-    requires { ⌜ n ≤ 65536 ⌝ }
     ensures { λ r. ⌜ r ≡ (n + 15) / 16 ⌝ }
 {
-    (n + 15) / 16
+    n / 16 + (n % 16 + 15) / 16
 }
 
 // Signs alone: 32 a word.
 pub(crate) fn sign_words(n: usize) -> usize
-    requires { ⌜ n ≤ 65536 ⌝ }
     ensures { λ r. ⌜ r ≡ (n + 31) / 32 ⌝ }
 {
-    (n + 31) / 32
+    n / 32 + (n % 32 + 31) / 32
 }

@@ -1,108 +1,152 @@
-// The loops that store unsigned output: the entry of a table for each bit, two-bit group or base-3 digit of the words, lowest
-// first. The loops of another output type differ from these in the type alone.
+// The loops that store unsigned output, two digits at a time by a table of pairs. The loops of another output type differ from
+// these in the type alone. The output and the words may overlap for all the compiler knows: what is read stands in a local first.
 use crate::bytes::ACCEPTED;
 use crate::bytes::Reached;
+use crate::width::Width;
 ghost use mathlib.Core.Path.{_≡_};
-ghost use Prim.Native.Nat.{_+_, _/_, _≤_};
-ghost use lib.ListN.{length, take, drop, replicate};
+ghost use Prim.Native.Nat.{_+_, _*_, _-_, _/_, _<_, _≤_};
+ghost use lib.ListN.{length, take, drop};
 ghost use lib.Seq.{paste};
 ghost use Rattle.distr.specs.Words.{mapRead};
 ghost use Rattle.distr.specs.Packed.{digits, split};
 ghost use Rattle.distr.specs.UniformTernary.{bytes};
-ghost use Rattle.packed.specs.Table.{entries};
+ghost use Rattle.packed.specs.Pairs.{singles, Paired, pairSet};
+ghost use Rattle.packed.specs.Cutting.{baseOf, eachOf};
 ghost use Rattle.packed.specs.Reach.{reading};
 
-// One word's lowest bits, `count` of them: the table's entries, from `at` on.
-fn store_bits(out: &mut [u64], at: usize, count: usize, table: &[u64; 2], word: u32)
-    requires { ⌜ (at + count ≤ length (now out)) × (count ≤ 32) ⌝ }
-    ensures { λ r. ⌜ now (out .exit) ≡ paste (now (out .entry)) at (entries (now (table .entry)) 0 (digits 2 32 word)) count ⌝ }
+// Stores the pair q.
+fn store_pair(out: &mut [u64], at: usize, pairs: &[u64], q: u32)
+    requires { ⌜ (at + 2 ≤ length (now out)) × (q * 2 + 2 ≤ length (now pairs)) ⌝ }
+    ensures { λ r. ⌜ now (out .exit) ≡ pairSet 0 (now (pairs .entry)) (now (out .entry)) at q ⌝ }
+{
+    let i = q as usize * 2;
+    let first = pairs[i];
+    let second = pairs[i + 1];
+    out[at] = first;
+    out[at + 1] = second;
+}
+
+// The 32 bits of a word, in 16 turns.
+fn store_bits(out: &mut [u64], at: usize, pairs: &[u64], word: u32)
+    requires { ⌜ (at + 32 ≤ length (now out)) × Paired 2 0 (now pairs) ⌝ }
+    ensures { λ r. ⌜ now (out .exit) ≡ paste (now (out .entry)) at (singles 0 (now (pairs .entry)) (digits 2 32 word)) 32 ⌝ }
 {
     let mut x = word;
     let mut k = 0;
+    while k < 32 {
+        store_pair(out, at + k, pairs, x % 4);
+        x = x / 4;
+        k += 2;
+    }
+}
+
+// The 16 two-bit groups of a word, in 8 turns.
+fn store_groups(out: &mut [u64], at: usize, pairs: &[u64], word: u32)
+    requires { ⌜ (at + 16 ≤ length (now out)) × Paired 4 0 (now pairs) ⌝ }
+    ensures { λ r. ⌜ now (out .exit) ≡ paste (now (out .entry)) at (singles 0 (now (pairs .entry)) (digits 4 16 word)) 16 ⌝ }
+{
+    let mut x = word;
+    let mut k = 0;
+    while k < 16 {
+        store_pair(out, at + k, pairs, x % 16);
+        x = x / 16;
+        k += 2;
+    }
+}
+
+// The five trits of a byte: two pairs, and the last one, which is what is left.
+fn store_trits(out: &mut [u64], at: usize, pairs: &[u64], byte: u32)
+    requires { ⌜ (at + 5 ≤ length (now out)) × (byte < 243) × Paired 3 0 (now pairs) ⌝ }
+    ensures { λ r. ⌜ now (out .exit) ≡ paste (now (out .entry)) at (singles 0 (now (pairs .entry)) (digits 3 5 byte)) 5 ⌝ }
+{
+    let x = byte / 9;
+    store_pair(out, at, pairs, byte % 9);
+    store_pair(out, at + 2, pairs, x % 9);
+    let i = (x / 9) as usize * 2;
+    let last = pairs[i];
+    out[at + 4] = last;
+}
+
+// What is left of the output from `at` on becomes the front of the part.
+fn store_front(out: &mut [u64], at: usize, part: &[u64])
+    requires { ⌜ (at ≤ length (now out)) × (length (now out) ≤ at + length (now part)) ⌝ }
+    ensures { λ r. ⌜ now (out .exit) ≡ paste (now (out .entry)) at (now (part .entry)) (length (now (out .entry)) - at) ⌝ }
+{
+    let count = out.len() - at;
+    let mut k = 0;
     while k < count {
-        out[at + k] = table[(x % 2) as usize];
-        x = x / 2;
+        let value = part[k];
+        out[at + k] = value;
         k += 1;
     }
 }
 
-// Fills the output with the table's entries of the bits from `place` on. The words are enough.
-pub(crate) fn fill_bits(out: &mut [u64], table: &[u64; 2], words: &[u32], place: usize)
-    requires { ⌜ place + (length (now out) + 31) / 32 ≤ length (now words) ⌝ }
+// Fills the output with what the bits from `place` on stand for. The words are enough; the last one may have bits too many.
+fn fill_bits(out: &mut [u64], pairs: &[u64], words: &[u32], place: usize)
+    requires { ⌜ (place + (length (now out) + 31) / 32 ≤ length (now words)) × Paired 2 0 (now pairs) ⌝ }
     ensures { λ r. ⌜ now (out .exit)
-        ≡ entries (now (table .entry)) 0 (take (length (now (out .entry))) (split 2 32 (drop place (now (words .entry))))) ⌝ }
+        ≡ singles 0 (now (pairs .entry)) (take (length (now (out .entry))) (split 2 32 (drop place (now (words .entry))))) ⌝ }
 {
     let n = out.len();
     let whole = n / 32;
     let mut i = 0;
     while i < whole {
         let word = words[place + i];
-        store_bits(out, i * 32, 32, table, word);
+        store_bits(out, i * 32, pairs, word);
         i += 1;
     }
     let at = i * 32;
     if at < n {
         let word = words[place + i];
-        store_bits(out, at, n - at, table, word);
+        let mut last = [0u64; 32];
+        store_bits(&mut last, 0, pairs, word);
+        store_front(out, at, &last);
     }
 }
 
-// One word's lowest two-bit groups, `count` of them: the table's entries, from `at` on.
-fn store_pairs(out: &mut [u64], at: usize, count: usize, table: &[u64; 4], word: u32)
-    requires { ⌜ (at + count ≤ length (now out)) × (count ≤ 16) ⌝ }
-    ensures { λ r. ⌜ now (out .exit) ≡ paste (now (out .entry)) at (entries (now (table .entry)) 0 (digits 4 16 word)) count ⌝ }
-{
-    let mut x = word;
-    let mut k = 0;
-    while k < count {
-        out[at + k] = table[(x % 4) as usize];
-        x = x / 4;
-        k += 1;
-    }
-}
-
-// Fills the output with the table's entries of the two-bit groups from `place` on. The words are enough.
-pub(crate) fn fill_pairs(out: &mut [u64], table: &[u64; 4], words: &[u32], place: usize)
-    requires { ⌜ place + (length (now out) + 15) / 16 ≤ length (now words) ⌝ }
+// The same with two-bit groups.
+fn fill_groups(out: &mut [u64], pairs: &[u64], words: &[u32], place: usize)
+    requires { ⌜ (place + (length (now out) + 15) / 16 ≤ length (now words)) × Paired 4 0 (now pairs) ⌝ }
     ensures { λ r. ⌜ now (out .exit)
-        ≡ entries (now (table .entry)) 0 (take (length (now (out .entry))) (split 4 16 (drop place (now (words .entry))))) ⌝ }
+        ≡ singles 0 (now (pairs .entry)) (take (length (now (out .entry))) (split 4 16 (drop place (now (words .entry))))) ⌝ }
 {
     let n = out.len();
     let whole = n / 16;
     let mut i = 0;
     while i < whole {
         let word = words[place + i];
-        store_pairs(out, i * 16, 16, table, word);
+        store_groups(out, i * 16, pairs, word);
         i += 1;
     }
     let at = i * 16;
     if at < n {
         let word = words[place + i];
-        store_pairs(out, at, n - at, table, word);
+        let mut last = [0u64; 16];
+        store_groups(&mut last, 0, pairs, word);
+        store_front(out, at, &last);
     }
 }
 
-// One byte's lowest trits, `count` of them: the table's entries, from `at` on.
-fn store_trits(out: &mut [u64], at: usize, count: usize, table: &[u64; 3], byte: u32)
-    requires { ⌜ (at + count ≤ length (now out)) × (count ≤ 5) ⌝ }
-    ensures { λ r. ⌜ now (out .exit) ≡ paste (now (out .entry)) at (entries (now (table .entry)) 0 (digits 3 5 byte)) count ⌝ }
+// Either of the two.
+pub(crate) fn fill_words(out: &mut [u64], pairs: &[u64], width: Width, words: &[u32], place: usize)
+    requires { ⌜ (place ≤ length (now words)) × (length (now out) ≤ (length (now words) - place) * eachOf width)
+        × Paired (baseOf width) 0 (now pairs) ⌝ }
+    ensures { λ r. ⌜ now (out .exit) ≡ singles 0 (now (pairs .entry))
+        (take (length (now (out .entry))) (split (baseOf width) (eachOf width) (drop place (now (words .entry))))) ⌝ }
 {
-    let mut x = byte;
-    let mut k = 0;
-    while k < count {
-        out[at + k] = table[(x % 3) as usize];
-        x = x / 3;
-        k += 1;
+    match width {
+        Width::Bits => fill_bits(out, pairs, words, place),
+        Width::Groups => fill_groups(out, pairs, words, place),
     }
 }
 
-// Fills the output with the table's entries of the trits from `place` on. `rest` is what is left of the word read last, in
-// `left` bytes. Where a word is missing the output holds what was written before.
-pub(crate) fn fill_trits(out: &mut [u64], table: &[u64; 3], words: &[u32], place: usize) -> Reached
-    requires { ⌜ place ≤ length (now words) ⌝ }
+// Fills the output with what the trits from `place` on stand for. `rest` is what is left of the word read last, in `left`
+// bytes. Where a word is missing the output holds what was written before.
+pub(crate) fn fill_trits(out: &mut [u64], pairs: &[u64], words: &[u32], place: usize) -> Reached
+    requires { ⌜ (place ≤ length (now words)) × Paired 3 0 (now pairs) ⌝ }
     ensures { λ r. ⌜ (r .place ≤ length (now (words .entry)))
         × (reading r (now (out .exit)) (now (words .entry))
-        ≡ mapRead (λ ds. entries (now (table .entry)) 0 (take (length (now (out .entry))) (split 3 5 ds)))
+        ≡ mapRead (λ ds. singles 0 (now (pairs .entry)) (take (length (now (out .entry))) (split 3 5 ds)))
         (bytes (drop place (now (words .entry))) ((length (now (out .entry)) + 4) / 5))) ⌝ }
 {
     let n = out.len();
@@ -128,10 +172,12 @@ pub(crate) fn fill_trits(out: &mut [u64], table: &[u64; 3], words: &[u32], place
             left -= 1;
             if byte < ACCEPTED {
                 if at + 5 <= n {
-                    store_trits(out, at, 5, table, byte);
+                    store_trits(out, at, pairs, byte);
                     at += 5;
                 } else {
-                    store_trits(out, at, n - at, table, byte);
+                    let mut last = [0u64; 5];
+                    store_trits(&mut last, 0, pairs, byte);
+                    store_front(out, at, &last);
                     at = n;
                 }
             }

@@ -1,8 +1,11 @@
 // Ternary values straight from the words; `minus_one` is how the caller holds −1.
+use crate::draws;
 use crate::needed;
-use crate::refusal;
+use crate::pairs_i64;
+use crate::pairs_u64;
 use crate::stores_i64;
 use crate::stores_u64;
+use crate::width::Width;
 use distr::answer::Answer;
 ghost use mathlib.Core.Path.{_≡_};
 ghost use mathlib.Core.List.{map};
@@ -22,23 +25,9 @@ pub fn sample_sparse_ternary_values_to_i64(
     ensures { λ r. ⌜ outcome r (now (result .exit))
         ≡ ruleDraw (map (signedWith «minus_one»)) 0 (sparseTernary (length (now (result .entry)))) (now (words .entry)) place (now (result .entry)) ⌝ }
 {
-    let n = result.len();
-    let count = words.len();
-    let number = refusal::early_number(count, place, n);
-    if number != 0 {
-        return Answer { number, place };
-    }
-    let words_needed = needed::sparse_words(n);
-    if count - place < words_needed {
-        fill::clear_i64(result);
-        return Answer { number: 23, place };
-    }
-    let table: [i64; 4] = [0, 0, 1, minus_one];
-    stores_i64::fill_pairs(result, &table, words, place);
-    Answer {
-        number: 0,
-        place: place + words_needed,
-    }
+    let pairs = pairs_i64::groups(0, 0, 1, minus_one);
+    let words_needed = needed::sparse_words(result.len());
+    draws::draw_i64(result, &pairs, Width::Groups, words_needed, words, place)
 }
 
 // The same for unsigned output.
@@ -51,23 +40,9 @@ pub fn sample_sparse_ternary_values_to_u64(
     ensures { λ r. ⌜ outcome r (now (result .exit))
         ≡ ruleDraw (map (encodeWith «minus_one»)) 0 (sparseTernary (length (now (result .entry)))) (now (words .entry)) place (now (result .entry)) ⌝ }
 {
-    let n = result.len();
-    let count = words.len();
-    let number = refusal::early_number(count, place, n);
-    if number != 0 {
-        return Answer { number, place };
-    }
-    let words_needed = needed::sparse_words(n);
-    if count - place < words_needed {
-        fill::clear_u64(result);
-        return Answer { number: 23, place };
-    }
-    let table: [u64; 4] = [0, 0, 1, minus_one];
-    stores_u64::fill_pairs(result, &table, words, place);
-    Answer {
-        number: 0,
-        place: place + words_needed,
-    }
+    let pairs = pairs_u64::groups(0, 0, 1, minus_one);
+    let words_needed = needed::sparse_words(result.len());
+    draws::draw_u64(result, &pairs, Width::Groups, words_needed, words, place)
 }
 
 // Uniform ternary values: a byte below 243 holds five base-3 digits, lowest first, standing for −1, 0 and 1; others are skipped.
@@ -80,12 +55,12 @@ pub fn sample_uniform_ternary_values_to_i64(
     ensures { λ r. ⌜ outcome r (now (result .exit))
         ≡ ruleDraw (map (signedWith «minus_one»)) 0 (uniformTernary (length (now (result .entry)))) (now (words .entry)) place (now (result .entry)) ⌝ }
 {
-    let number = refusal::early_number(words.len(), place, result.len());
+    let number = words::early_number(words.len(), place, result.len());
     if number != 0 {
         return Answer { number, place };
     }
-    let table: [i64; 3] = [minus_one, 0, 1];
-    let reached = stores_i64::fill_trits(result, &table, words, place);
+    let pairs = pairs_i64::trits(minus_one, 0, 1);
+    let reached = stores_i64::fill_trits(result, &pairs, words, place);
     if reached.found {
         return Answer {
             number: 0,
@@ -106,12 +81,12 @@ pub fn sample_uniform_ternary_values_to_u64(
     ensures { λ r. ⌜ outcome r (now (result .exit))
         ≡ ruleDraw (map (encodeWith «minus_one»)) 0 (uniformTernary (length (now (result .entry)))) (now (words .entry)) place (now (result .entry)) ⌝ }
 {
-    let number = refusal::early_number(words.len(), place, result.len());
+    let number = words::early_number(words.len(), place, result.len());
     if number != 0 {
         return Answer { number, place };
     }
-    let table: [u64; 3] = [minus_one, 0, 1];
-    let reached = stores_u64::fill_trits(result, &table, words, place);
+    let pairs = pairs_u64::trits(minus_one, 0, 1);
+    let reached = stores_u64::fill_trits(result, &pairs, words, place);
     if reached.found {
         return Answer {
             number: 0,
@@ -132,23 +107,9 @@ pub fn sample_signs_to_i64(
     ensures { λ r. ⌜ outcome r (now (result .exit))
         ≡ ruleDraw (map (signedWith «minus_one»)) 0 (signsAlone (length (now (result .entry)))) (now (words .entry)) place (now (result .entry)) ⌝ }
 {
-    let n = result.len();
-    let count = words.len();
-    let number = refusal::early_number(count, place, n);
-    if number != 0 {
-        return Answer { number, place };
-    }
-    let words_needed = needed::sign_words(n);
-    if count - place < words_needed {
-        fill::clear_i64(result);
-        return Answer { number: 23, place };
-    }
-    let table: [i64; 2] = [minus_one, 1];
-    stores_i64::fill_bits(result, &table, words, place);
-    Answer {
-        number: 0,
-        place: place + words_needed,
-    }
+    let pairs = pairs_i64::bits(minus_one, 1);
+    let words_needed = needed::sign_words(result.len());
+    draws::draw_i64(result, &pairs, Width::Bits, words_needed, words, place)
 }
 
 // The same for unsigned output.
@@ -161,21 +122,7 @@ pub fn sample_signs_to_u64(
     ensures { λ r. ⌜ outcome r (now (result .exit))
         ≡ ruleDraw (map (encodeWith «minus_one»)) 0 (signsAlone (length (now (result .entry)))) (now (words .entry)) place (now (result .entry)) ⌝ }
 {
-    let n = result.len();
-    let count = words.len();
-    let number = refusal::early_number(count, place, n);
-    if number != 0 {
-        return Answer { number, place };
-    }
-    let words_needed = needed::sign_words(n);
-    if count - place < words_needed {
-        fill::clear_u64(result);
-        return Answer { number: 23, place };
-    }
-    let table: [u64; 2] = [minus_one, 1];
-    stores_u64::fill_bits(result, &table, words, place);
-    Answer {
-        number: 0,
-        place: place + words_needed,
-    }
+    let pairs = pairs_u64::bits(minus_one, 1);
+    let words_needed = needed::sign_words(result.len());
+    draws::draw_u64(result, &pairs, Width::Bits, words_needed, words, place)
 }

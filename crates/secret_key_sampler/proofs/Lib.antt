@@ -5,3 +5,4 @@ pub mod Held
 pub mod Drawing
 pub mod Answers
 pub mod CrtAnswers
+pub mod Calls

@@ -4,101 +4,22 @@ use native.Mathlib.Omega.{arith}
 use mathlib.Core.Path.{_≡_, refl, sym, _∙_, ap, subst}
 use mathlib.Core.Bool.{Bool, true, false, cond}
 use mathlib.Core.List.{List, [], _∷_, map}
-use borrow.Author.Tests.{lt-ltb, le-ltb, le-leb, lt-leb, eq-eqb, ne-eqb, eqb-true}
-use lib.Dec.{T, eqb}
+use borrow.Author.Tests.{lt-ltb, le-ltb, le-leb, lt-leb, ne-eqb}
+use lib.Dec.{eqb}
 use lib.ListN.{length, take, replicate}
 use lib.IntN.{ℤ, pos}
-use Rattle.distr.specs.declared.secret_key_distr.SecretKeyDistr.{SecretKeyDistr}
-use Rattle.distr.specs.declared.error_distribution.ErrorDistribution.{ErrorDistribution}
 use Rattle.distr.specs.Distribution.{Distr, secret, error}
-use Rattle.distr.specs.Making.{makingNumber, secretNumber, errorNumber}
+use Rattle.distr.specs.Making.{makingNumber}
 use Rattle.distr.specs.Draw.{Outcome, judged, encodedDraw}
 use Rattle.distr.proofs.Writing.{map-replicate}
-use Rattle.secret_key_sampler.specs.declared.MadeSampler.{MadeSampler as MadeSecret}
-use Rattle.secret_key_sampler.specs.Sampler.{making as makingSecret, isMade as isMadeSecret}
-use Rattle.secret_key_sampler.proofs.Made.{some-made as some-secret}
-use Rattle.error_sampler.specs.declared.MadeSampler.{MadeSampler as MadeError}
-use Rattle.error_sampler.specs.Sampler.{making as makingError, isMade as isMadeError}
-use Rattle.error_sampler.proofs.Made.{some-made as some-error}
 use Rattle.sheet.specs.declared.request.Request.{Request}
 use Rattle.sheet.specs.declared.request.Request.the-variants.{Secret, Error, Refused}
 use Rattle.sheet.specs.Text.{answerText}
 use Rattle.sheet.proofs.WellFormed.{Good, well-formed}
 use Rattle.sheet.specs.Sheet.{fieldsOf, wordsAt, malformed, kindDistr, noTables, residues, drawOf, outcomeText, fieldsText, sheetText}
-use Rattle.sheet.specs.Request.{knownKind, requestOf, made, madeSigned, madeEncoded, requestSigned, requestEncoded, answered}
+use Rattle.sheet.specs.Request.{knownKind, requestOf, madeSigned, madeEncoded, requestSigned, requestEncoded, answered}
 use Rattle.sheet.specs.Written.{Written}
 use Rattle.sheet.specs.declared.fields.Fields.{Fields}
-
-holds : (b : Bool) → T b → b ≡ true
-holds true h = refl
-holds false h = absurd h
-
--- What a sampler's making hands back is the number of its distribution and, where that is 0, a made sampler of it.
-pub secret-number : (d : SecretKeyDistr) → makingSecret d .number ≡ makingNumber (secret d)
-unfolding makingNumber
-secret-number d = go (eqb (secretNumber d) 0) refl
-  where
-    go : (b : Bool) → eqb (secretNumber d) 0 ≡ b → makingSecret d .number ≡ secretNumber d
-    go true e = rw e (sym (eqb-true (secretNumber d) 0 e))
-    go false e = rw e
-
-pub secret-made : (d : SecretKeyDistr) (m : MadeSecret) → m ≡ makingSecret d → m .number ≡ 0
-    → (isMadeSecret (m .sampler) ≡ true) × (m .sampler .distr ≡ d)
-unfolding makingNumber
-secret-made d m h z =
-    let number : secretNumber d ≡ 0 = sym (secret-number d) ∙ sym (ap (λ (r : MadeSecret). r .number) h) ∙ z in
-    let own : makingSecret d .sampler .distr ≡ d = rw (eq-eqb (secretNumber d) 0 number) in
-    let whole : m ≡ record { number = 0; sampler = m .sampler } = ap (λ (k : ℕ). record { number = k; sampler = m .sampler }) z in
-    (holds (isMadeSecret (m .sampler)) (some-secret (m .sampler) d (sym h ∙ whole)), ap (λ (r : MadeSecret). r .sampler .distr) h ∙ own)
-
-pub error-number : (d : ErrorDistribution) → makingError d .number ≡ makingNumber (error d)
-unfolding makingNumber
-error-number d = go (eqb (errorNumber d) 0) refl
-  where
-    go : (b : Bool) → eqb (errorNumber d) 0 ≡ b → makingError d .number ≡ errorNumber d
-    go true e = rw e (sym (eqb-true (errorNumber d) 0 e))
-    go false e = rw e
-
-pub error-made : (d : ErrorDistribution) (m : MadeError) → m ≡ makingError d → m .number ≡ 0
-    → (isMadeError (m .sampler) ≡ true) × (m .sampler .distribution ≡ d)
-unfolding makingNumber
-error-made d m h z =
-    let number : errorNumber d ≡ 0 = sym (error-number d) ∙ sym (ap (λ (r : MadeError). r .number) h) ∙ z in
-    let own : makingError d .sampler .distribution ≡ d = rw (eq-eqb (errorNumber d) 0 number) in
-    let whole : m ≡ record { number = 0; sampler = m .sampler } = ap (λ (k : ℕ). record { number = k; sampler = m .sampler }) z in
-    (holds (isMadeError (m .sampler)) (some-error (m .sampler) d (sym h ∙ whole)), ap (λ (r : MadeError). r .sampler .distribution) h ∙ own)
-
--- A number of making that is not 0 ends the request; else the draw is its answer.
-made-refused : {A : Type 0} (d : Distr) (number : ℕ) (out : List A) (drawn : Outcome A) → number ≡ makingNumber d → (number ≡ 0 → ⊥)
-    → record { number = number; place = 0; output = out } ≡ made d out drawn
-unfolding judged
-made-refused d number out drawn e ne = rw (← e, ne-eqb number 0 ne)
-
-made-drawn : {A : Type 0} (d : Distr) (out : List A) (drawn : Outcome A) → makingNumber d ≡ 0 → drawn ≡ made d out drawn
-unfolding judged
-made-drawn d out drawn z = rw z
-
-pub secret-refused : {A : Type 0} (d : SecretKeyDistr) (m : MadeSecret) (out : List A) (drawn : Outcome A) → m ≡ makingSecret d → (m .number ≡ 0 → ⊥)
-    → record { number = m .number; place = 0; output = out } ≡ made (secret d) out drawn
-secret-refused d m out drawn h = made-refused (secret d) (m .number) out drawn (ap (λ (r : MadeSecret). r .number) h ∙ secret-number d)
-
-pub secret-drawn : {A : Type 0} (draws : Bool → Distr → Outcome A) (d : SecretKeyDistr) (m : MadeSecret) (out : List A) → m ≡ makingSecret d
-    → m .number ≡ 0 → draws (isMadeSecret (m .sampler)) (secret (m .sampler .distr)) ≡ made (secret d) out (draws true (secret d))
-secret-drawn draws d m out h z =
-    let both = secret-made d m h z in
-    ap (λ (b : Bool). draws b (secret (m .sampler .distr))) (both .0) ∙ ap (λ (e : SecretKeyDistr). draws true (secret e)) (both .1)
-    ∙ made-drawn (secret d) out (draws true (secret d)) (sym (secret-number d) ∙ sym (ap (λ (r : MadeSecret). r .number) h) ∙ z)
-
-pub error-refused : {A : Type 0} (d : ErrorDistribution) (m : MadeError) (out : List A) (drawn : Outcome A) → m ≡ makingError d → (m .number ≡ 0 → ⊥)
-    → record { number = m .number; place = 0; output = out } ≡ made (error d) out drawn
-error-refused d m out drawn h = made-refused (error d) (m .number) out drawn (ap (λ (r : MadeError). r .number) h ∙ error-number d)
-
-pub error-drawn : {A : Type 0} (draws : Bool → Distr → Outcome A) (d : ErrorDistribution) (m : MadeError) (out : List A) → m ≡ makingError d
-    → m .number ≡ 0 → draws (isMadeError (m .sampler)) (error (m .sampler .distribution)) ≡ made (error d) out (draws true (error d))
-error-drawn draws d m out h z =
-    let both = error-made d m h z in
-    ap (λ (b : Bool). draws b (error (m .sampler .distribution))) (both .0) ∙ ap (λ (e : ErrorDistribution). draws true (error e)) (both .1)
-    ∙ made-drawn (error d) out (draws true (error d)) (sym (error-number d) ∙ sym (ap (λ (r : MadeError). r .number) h) ∙ z)
 
 -- A draw by the kind of request is the draw of the distribution that was asked for.
 unfoldable pub byRequest : {A : Type 0} → (Distr → Outcome A) → Outcome A → Request → Outcome A

@@ -5,6 +5,7 @@ mod reply;
 pub mod request;
 mod text;
 
+pub use text::magnitude;
 ghost use mathlib.Core.Path.{_≡_};
 ghost use Prim.Native.Nat.{_≤_};
 ghost use lib.ListN.{length, take};
@@ -15,6 +16,20 @@ fn no_words() -> [u32; 8192]
     ensures { λ r. ⌜ length r ≡ 8192 ⌝ }
 {
     [0; 8192]
+}
+
+// Room for a sheet and one byte more, so that a longer one is refused. The `ensures` gives the length, which lending the array needs.
+pub fn sheet_room() -> [u8; 65537]
+    ensures { λ r. ⌜ 65537 ≡ length r ⌝ }
+{
+    [0; 65537]
+}
+
+// Room for any answer.
+pub fn text_room() -> [u8; 98304]
+    ensures { λ r. ⌜ 98304 ≡ length r ⌝ }
+{
+    [0; 98304]
 }
 
 // Answers a sheet. The text's length is handed back; it stands at the start of `text`, which must have 98,304 bytes, or it is left as it was.

@@ -22,7 +22,7 @@ pub(crate) fn write_number_u64(text: &mut [u8], at: usize, value: u64) -> usize
 }
 
 // The magnitude of a number: of a negative x it is !x + 1, where no step overflows.
-fn magnitude(x: i64) -> u64
+pub fn magnitude(x: i64) -> u64
     ensures { λ r. ⌜ r ≡ natAbs x ⌝ }
 {
     if x < 0 {

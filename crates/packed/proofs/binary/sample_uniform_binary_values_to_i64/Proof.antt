@@ -1,82 +1,44 @@
--- `binary::sample_uniform_binary_values_to_i64` is the rule's draw: refused early, short of words, or filled from the table.
+-- `binary::sample_uniform_binary_values_to_i64` is the rule's draw: the table of pairs holds the rule's values.
+use mathlib.Core.List.{[], _∷_}
 use mathlib.Core.Path.{refl, sym}
-use Prim.Native.Nat.{_≤_}
 use native.Mathlib.Omega.{arith}
-use lib.ListN.{length}
+use borrow.Author.Needs.{needs}
 use lib.IntN.{pos}
 use Rattle.distr.proofs.Writing.{map-id}
-use Rattle.packed.proofs.Deciding.{early-passed, refused, packed-lacking, packed-reached, below-two}
+use Rattle.packed.proofs.Pairing.{made-paired, made-agrees}
+use Rattle.packed.proofs.Deciding.{below-two}
 use Rattle.packed.proofs.binary.sample_uniform_binary_values_to_i64.Statement.{statement}
 use Rattle.packed.proofs.binary.sample_uniform_binary_values_to_i64.Tie as tie
 
-early-number-requires : tie.Need-early-number-requires
-early-number-requires c κs = tt
-
-returns : tie.Need-returns
-returns c = refused _ (λ c. c) (λ cs. sym (map-id cs)) _ _ _ _ (c .before .early-number .ensures) (c .if1 .taken)
-
--- what the early tests leave
-passed : (c : tie.Else1)
-    → let a = c .before .before .before .args in (a .place ≤ length (a .words .now)) × (length (a .result .now) ≤ 65536)
-passed c =
-    let a = c .before .before .before .args in
-    early-passed (length (a .words .now)) (a .place) (length (a .result .now)) (c .before .early-number .ensures) (c .if1 .left)
+bits-requires : tie.Need-bits-requires
+bits-requires c κs = search needs
 
 binary-words-requires : tie.Need-binary-words-requires
-binary-words-requires c κs = tt
+binary-words-requires c κs = search needs
 
-sub-if2 : tie.Need-sub-if2
-sub-if2 c = passed (c .before) .0
+slice-aggregate-draw-i64 : tie.Need-slice-aggregate-draw-i64
+slice-aggregate-draw-i64 c = search needs
 
-clear-i64-requires : tie.Need-clear-i64-requires
-clear-i64-requires c κs = tt
+draw-i64-requires : tie.Need-draw-i64-requires
+draw-i64-requires c κs = (made-paired (pos 0) (pos 0 ∷ pos 1 ∷ []) (omega arith) (c .before .before .before .bits .ensures), omega arith)
 
 same-length : tie.Need-same-length
-same-length c = c .before .clear-i64 .kept .0
+same-length c = search needs
 
-returns-2 : tie.Need-returns-2
-returns-2 c =
+returns : tie.Need-returns
+returns c =
     let called = c .before in
-    let test = called .before .before in
-    let judged = test .before .before in
-    let a = judged .before .before .before .args in
-    packed-lacking _ (λ c. c) (λ cs. sym (map-id cs)) 2 32 _ pos (a .words .now) (a .place) (a .result .now)
-    (judged .before .early-number .ensures) (judged .if1 .left)
-    (test .before .binary-words .ensures) (test .if2 .taken) (called .clear-i64 .ensures)
-
-fill-bits-requires : tie.Need-fill-bits-requires
-fill-bits-requires c κs = omega (arith, passed (c .before .before .before .before))
-
-add-t10 : tie.Need-add-t10
-add-t10 c = omega arith
-
-same-length-2 : tie.Need-same-length-2
-same-length-2 c = c .before .fill-bits .kept .0
-
-returns-3 : tie.Need-returns-3
-returns-3 c =
-    let called = c .before in
-    let test = called .before .before .before in
-    let judged = test .before .before in
-    let start = judged .before .before .before in
-    let a = start .args in
-    packed-reached _ (λ c. c) (λ cs. sym (map-id cs)) 2 32 _ pos (a .words .now) (a .place) (a .result .now)
-    (judged .before .early-number .ensures) (judged .if1 .left)
-    _ (omega arith) (below-two _ refl refl)
-    (test .before .binary-words .ensures) (test .if2 .left) (omega arith) (called .fill-bits .ensures)
+    rw (called .before .before .before .binary-words .ensures) at
+    (called .draw-i64 .ensures .serves (λ cs. cs) (λ x. x) pos (λ cs. sym (map-id cs)) refl
+    (made-agrees (pos 0) (pos 0 ∷ pos 1 ∷ []) (omega arith) (called .before .before .before .before .bits .ensures) _ (below-two _ refl refl)))
 
 pub sample-uniform-binary-values-to-i64-spec : {M : Type 1} → statement M
 sample-uniform-binary-values-to-i64-spec =
     tie.close
     (tie.spec
-    early-number-requires
-    returns
+    bits-requires
     binary-words-requires
-    sub-if2
-    clear-i64-requires
+    slice-aggregate-draw-i64
+    draw-i64-requires
     same-length
-    returns-2
-    fill-bits-requires
-    add-t10
-    same-length-2
-    returns-3)
+    returns)

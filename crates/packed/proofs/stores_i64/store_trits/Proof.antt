@@ -1,72 +1,64 @@
--- `stores_i64::store_trits` stores the table's entries of trits: after k turns the k lowest are stored.
-use Prim.Native.Nat.{_-_, _≤_}
-use native.Mathlib.Nat.{le-antisymm}
-use native.Mathlib.Omega.{arith}
+-- `stores_i64::store_trits` stores the five trits of a byte: two pairs, and the one left.
+use mathlib.Core.Path.{_∙_}
+use borrow.Author.Needs.{needs}
 use mir.Facts.{toZ-ofZ}
-use lib.ListN.{getD}
-use lib.IntN.{pos}
-use Rattle.packed.proofs.Storing.{Stored, stored-none, stored-more, stored-length}
+use lib.ListN.{length-set}
+use Rattle.packed.proofs.Storing.{five-trits}
 use Rattle.packed.proofs.stores_i64.store_trits.Statement.{statement}
 use Rattle.packed.proofs.stores_i64.store_trits.Tie as tie
 
-abbrev Inv-loop : tie.InvT-loop
-Inv-loop out₀ at count table byte x₀ k₀ out x k = (k ≤ count) × Stored 3 5 (λ d. getD table d (pos 0)) out₀ at byte k out x
+store-pair-requires : tie.Need-store-pair-requires
+store-pair-requires c κs = search needs
 
-abbrev μ-loop : tie.MeasureT-loop
-μ-loop out₀ at count table byte x₀ k₀ out x k = count - k
+add-store-pair : tie.Need-add-store-pair
+add-store-pair c = search needs
 
-loop-holds : tie.Need-loop-holds Inv-loop μ-loop
-loop-holds c = (omega arith, stored-none 3 5 _ _ _ _)
+store-pair-requires-2 : tie.Need-store-pair-requires-2
+store-pair-requires-2 c κs = search needs
 
-cast-out : tie.Need-cast-out Inv-loop μ-loop
-cast-out c = omega arith
+cast-i : tie.Need-cast-i
+cast-i c = search needs
 
-mul-out : tie.Need-mul-out Inv-loop μ-loop
-mul-out c = omega arith
+mul-i : tie.Need-mul-i
+mul-i c = search needs
 
-element-copy-out-out : tie.Need-element-copy-out-out Inv-loop μ-loop
-element-copy-out-out c = omega arith
+mul-last : tie.Need-mul-last
+mul-last c = search needs
 
-add-t15 : tie.Need-add-t15 Inv-loop μ-loop
-add-t15 c = omega arith
+shared-slice-copy-out-last : tie.Need-shared-slice-copy-out-last
+shared-slice-copy-out-last c = search needs
 
-mul-t16 : tie.Need-mul-t16 Inv-loop μ-loop
-mul-t16 c = omega arith
+add-last : tie.Need-add-last
+add-last c = search needs
 
-slice-set-from-out : tie.Need-slice-set-from-out Inv-loop μ-loop
-slice-set-from-out c = omega (arith, stored-length 3 5 _ _ _ _ (omega arith) (omega arith) (c .before .before .loop .inv .1))
+mul-last-2 : tie.Need-mul-last-2
+mul-last-2 c = search needs
 
-add-k : tie.Need-add-k Inv-loop μ-loop
-add-k c = omega arith
+slice-set-from-last : tie.Need-slice-set-from-last
+slice-set-from-last c = search needs
 
-loop-less : tie.Need-loop-less Inv-loop μ-loop
-loop-less c = omega arith
+same-length : tie.Need-same-length
+same-length c = simp length-set (c .before .before .store-pair2 .kept .0 ∙ c .before .before .before .before .before .store-pair .kept .0)
 
-loop-again : tie.Need-loop-again Inv-loop μ-loop
-loop-again c =
-    (omega arith, rw (toZ-ofZ (record { sfits = c .out .given })) (stored-more 3 5 _ _ _ _ (omega arith) (omega arith) (c .before .before .loop .inv .1)))
-
-same-length : tie.Need-same-length Inv-loop μ-loop
-same-length c = stored-length 3 5 _ _ _ _ (omega arith) (omega arith) (c .before .loop .inv .1)
-
-returns : tie.Need-returns Inv-loop μ-loop
-returns c = rw (le-antisymm (c .loop-test .left) (c .before .loop .inv .0)) (c .before .loop .inv .1 .holds)
+returns : tie.Need-returns
+returns c =
+    let start = c .before .before .before .before .before .before .before in
+    rw (toZ-ofZ (record { sfits = c .last .given }))
+    (five-trits _ _ _ _ _ (start .pre .0) (start .pre .1) (start .pre .2) (c .before .before .before .before .before .store-pair .ensures) (c .before .before .store-pair2 .ensures))
 
 pub store-trits-spec : {M : Type 1} → statement M
 store-trits-spec =
     tie.close
     (tie.spec
-    Inv-loop
-    μ-loop
-    loop-holds
-    cast-out
-    mul-out
-    element-copy-out-out
-    add-t15
-    mul-t16
-    slice-set-from-out
-    add-k
-    loop-less
-    loop-again
+    store-pair-requires
+    add-store-pair
+    store-pair-requires-2
+    cast-i
+    mul-i
+    mul-last
+    shared-slice-copy-out-last
+    add-last
+    mul-last-2
+    slice-set-from-last
     same-length
     returns)

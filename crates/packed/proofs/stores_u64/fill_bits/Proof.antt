@@ -1,21 +1,20 @@
--- `stores_u64::fill_bits` fills the output with the table's entries: after i turns those of i words are written.
+-- `stores_u64::fill_bits` fills the output by the table of pairs: after i turns the digits of i words are stored.
 use Prim.Native.Nat.{_*_, _-_, _≤_}
-use mathlib.Core.Path.{_≡_, refl, _∙_}
+use mathlib.Core.Path.{_∙_}
 use native.Mathlib.Omega.{arith}
-use lib.ListN.{length, getD}
-use Rattle.packed.proofs.Packing.{Filled, filled-none, filled-more, filled-all}
+use lib.ListN.{replicate}
+use Rattle.packed.proofs.Packing.{Filled, filled-none, filled-more, filled-all, filled-last}
 use Rattle.packed.proofs.stores_u64.fill_bits.Statement.{statement}
 use Rattle.packed.proofs.stores_u64.fill_bits.Tie as tie
 
 abbrev Inv-loop : tie.InvT-loop
-Inv-loop out₀ table words place n whole i₀ out i =
-    (i ≤ whole) × (length out ≡ n) × Filled 2 32 (λ d. getD table d 0) words place out₀ (i * 32) out
+Inv-loop out₀ pairs words place n whole i₀ out i = (i ≤ whole) × Filled 2 32 0 pairs words place out₀ (i * 32) out
 
 abbrev μ-loop : tie.MeasureT-loop
-μ-loop out₀ table words place n whole i₀ out i = whole - i
+μ-loop out₀ pairs words place n whole i₀ out i = whole - i
 
 loop-holds : tie.Need-loop-holds Inv-loop μ-loop
-loop-holds c = (omega arith, refl, filled-none 2 32 _ _ _ _)
+loop-holds c = (omega arith, filled-none 2 32 _ _ _ _ _ (c .before .before .before .pre .1))
 
 add-word : tie.Need-add-word Inv-loop μ-loop
 add-word c = omega arith
@@ -30,7 +29,9 @@ mul-store-bits : tie.Need-mul-store-bits Inv-loop μ-loop
 mul-store-bits c = omega arith
 
 store-bits-requires : tie.Need-store-bits-requires Inv-loop μ-loop
-store-bits-requires c κs = omega arith
+store-bits-requires c κs =
+    let inv = c .before .before .before .loop .inv in
+    (omega arith, inv .1 .paired)
 
 add-i : tie.Need-add-i Inv-loop μ-loop
 add-i c = omega arith
@@ -40,11 +41,9 @@ loop-less c = omega arith
 
 loop-again : tie.Need-loop-again Inv-loop μ-loop
 loop-again c =
-    let called = c .before .before in
-    let loop = called .before .before .before .before .loop in (
+    let loop = c .before .before .before .before .before .before .loop in (
       omega arith,
-      called .store-bits .kept .0 ∙ loop .inv .1,
-      filled-more 2 32 _ _ _ _ (loop .i) 32 (omega arith) (omega arith) (omega arith) (loop .inv .2) (called .store-bits .ensures),
+      filled-more 2 32 _ _ _ _ _ (loop .i) 32 (omega arith) (omega arith) (omega arith) (omega arith) (loop .inv .1) (c .before .before .store-bits .ensures),
     )
 
 mul-at : tie.Need-mul-at Inv-loop μ-loop
@@ -59,31 +58,33 @@ mul-word-2 c = omega arith
 shared-slice-read-word-2 : tie.Need-shared-slice-read-word-2 Inv-loop μ-loop
 shared-slice-read-word-2 c = omega arith
 
-sub-store-bits : tie.Need-sub-store-bits Inv-loop μ-loop
-sub-store-bits c = omega arith
+slice-aggregate-store-bits : tie.Need-slice-aggregate-store-bits Inv-loop μ-loop
+slice-aggregate-store-bits c = omega arith
 
 store-bits-requires-2 : tie.Need-store-bits-requires-2 Inv-loop μ-loop
-store-bits-requires-2 c κs = omega arith
+store-bits-requires-2 c κs =
+    let inv = c .before .before .before .before .loop .inv in
+    (omega arith, inv .1 .paired)
+
+slice-aggregate-store-front : tie.Need-slice-aggregate-store-front Inv-loop μ-loop
+slice-aggregate-store-front c = omega arith
+
+store-front-requires : tie.Need-store-front-requires Inv-loop μ-loop
+store-front-requires c κs = omega arith
 
 same-length : tie.Need-same-length Inv-loop μ-loop
-same-length c =
-    let called = c .before .before in
-    called .store-bits2 .kept .0 ∙ called .before .before .before .before .before .loop .inv .1
+same-length c = c .before .before .store-front .kept .0 ∙ c .before .before .before .before .before .before .before .before .before .before .before .loop .inv .1 .sized
 
 returns : tie.Need-returns Inv-loop μ-loop
 returns c =
-    let called = c .before .before in
-    let at = called .before .before .before .before .before in
-    let loop = at .loop in
-    let n = length (at .before .before .before .args .out .now) in
-    filled-all 2 32 _ _ _ _ {p = n} refl
-    (filled-more 2 32 _ _ _ _ (loop .i) (n - loop .i * 32) (omega arith) (omega arith) (omega arith) (loop .inv .2) (called .store-bits2 .ensures))
+    let loop = c .before .before .before .before .before .before .before .before .before .before .before .loop in
+    filled-last 2 32 _ _ _ _ _ (loop .i) (replicate 32 0) (omega arith) (omega arith) (omega arith) (loop .inv .1) (c .before .before .before .before .before .before .store-bits2 .ensures) (c .before .before .store-front .ensures)
 
 same-length-2 : tie.Need-same-length-2 Inv-loop μ-loop
-same-length-2 c = c .before .before .loop .inv .1
+same-length-2 c = c .before .before .loop .inv .1 .sized
 
 returns-2 : tie.Need-returns-2 Inv-loop μ-loop
-returns-2 c = filled-all 2 32 _ _ _ _ (omega arith) (c .before .before .loop .inv .2)
+returns-2 c = filled-all 2 32 _ _ _ _ _ (omega arith) (c .before .before .loop .inv .1)
 
 pub fill-bits-spec : {M : Type 1} → statement M
 fill-bits-spec =
@@ -104,8 +105,10 @@ fill-bits-spec =
     add-word-2
     mul-word-2
     shared-slice-read-word-2
-    sub-store-bits
+    slice-aggregate-store-bits
     store-bits-requires-2
+    slice-aggregate-store-front
+    store-front-requires
     same-length
     returns
     same-length-2

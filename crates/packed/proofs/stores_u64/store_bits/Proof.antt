@@ -1,38 +1,27 @@
--- `stores_u64::store_bits` stores the table's entries of bits: after k turns the k lowest are stored.
-use Prim.Native.Nat.{_-_, _≤_}
-use native.Mathlib.Nat.{le-antisymm}
+-- `stores_u64::store_bits` stores 32 digits, two a turn: after k digits the k lowest are stored.
+use Prim.Native.Nat.{_-_}
+use mathlib.Core.Path.{refl}
 use native.Mathlib.Omega.{arith}
-use lib.ListN.{getD}
-use Rattle.packed.proofs.Storing.{Stored, stored-none, stored-more, stored-length}
+use Rattle.packed.proofs.Storing.{Pairwise, pairwise-none, pairwise-more, pairwise-length, pairwise-done}
 use Rattle.packed.proofs.stores_u64.store_bits.Statement.{statement}
 use Rattle.packed.proofs.stores_u64.store_bits.Tie as tie
 
 abbrev Inv-loop : tie.InvT-loop
-Inv-loop out₀ at count table word x₀ k₀ out x k = (k ≤ count) × Stored 2 32 (λ d. getD table d 0) out₀ at word k out x
+Inv-loop out₀ at pairs word x₀ k₀ out x k = Pairwise 2 32 0 pairs out₀ at word k out x
 
 abbrev μ-loop : tie.MeasureT-loop
-μ-loop out₀ at count table word x₀ k₀ out x k = count - k
+μ-loop out₀ at pairs word x₀ k₀ out x k = 32 - k
 
 loop-holds : tie.Need-loop-holds Inv-loop μ-loop
-loop-holds c = (omega arith, stored-none 2 32 _ _ _ _)
+loop-holds c = pairwise-none 2 32 _ _ _ _ _ (c .before .before .pre .0) (c .before .before .pre .1)
 
-cast-out : tie.Need-cast-out Inv-loop μ-loop
-cast-out c = omega arith
+add-store-pair : tie.Need-add-store-pair Inv-loop μ-loop
+add-store-pair c = omega arith
 
-mul-out : tie.Need-mul-out Inv-loop μ-loop
-mul-out c = omega arith
-
-element-copy-out-out : tie.Need-element-copy-out-out Inv-loop μ-loop
-element-copy-out-out c = omega arith
-
-add-out : tie.Need-add-out Inv-loop μ-loop
-add-out c = omega arith
-
-mul-out-2 : tie.Need-mul-out-2 Inv-loop μ-loop
-mul-out-2 c = omega arith
-
-slice-write-out : tie.Need-slice-write-out Inv-loop μ-loop
-slice-write-out c = omega (arith, stored-length 2 32 _ _ _ _ (omega arith) (omega arith) (c .before .before .loop .inv .1))
+store-pair-requires : tie.Need-store-pair-requires Inv-loop μ-loop
+store-pair-requires c κs =
+    let inv = c .before .before .loop .inv in
+    omega (arith, inv .paired .sized, pairwise-length 2 32 _ _ _ _ _ inv)
 
 add-k : tie.Need-add-k Inv-loop μ-loop
 add-k c = omega arith
@@ -41,14 +30,13 @@ loop-less : tie.Need-loop-less Inv-loop μ-loop
 loop-less c = omega arith
 
 loop-again : tie.Need-loop-again Inv-loop μ-loop
-loop-again c =
-    (omega arith, stored-more 2 32 _ _ _ _ (omega arith) (omega arith) (c .before .before .loop .inv .1))
+loop-again c = pairwise-more 2 32 _ _ _ _ _ refl (omega arith) (c .before .before .before .before .before .loop .inv) (c .before .before .store-pair .ensures)
 
 same-length : tie.Need-same-length Inv-loop μ-loop
-same-length c = stored-length 2 32 _ _ _ _ (omega arith) (omega arith) (c .before .loop .inv .1)
+same-length c = pairwise-length 2 32 _ _ _ _ _ (c .before .loop .inv)
 
 returns : tie.Need-returns Inv-loop μ-loop
-returns c = rw (le-antisymm (c .loop-test .left) (c .before .loop .inv .0)) (c .before .loop .inv .1 .holds)
+returns c = pairwise-done 2 32 _ _ _ _ _ (c .loop-test .left) (c .before .loop .inv)
 
 pub store-bits-spec : {M : Type 1} → statement M
 store-bits-spec =
@@ -57,12 +45,8 @@ store-bits-spec =
     Inv-loop
     μ-loop
     loop-holds
-    cast-out
-    mul-out
-    element-copy-out-out
-    add-out
-    mul-out-2
-    slice-write-out
+    add-store-pair
+    store-pair-requires
     add-k
     loop-less
     loop-again

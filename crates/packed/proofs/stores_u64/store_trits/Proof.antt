@@ -1,70 +1,62 @@
--- `stores_u64::store_trits` stores the table's entries of trits: after k turns the k lowest are stored.
-use Prim.Native.Nat.{_-_, _≤_}
-use native.Mathlib.Nat.{le-antisymm}
-use native.Mathlib.Omega.{arith}
-use lib.ListN.{getD}
-use Rattle.packed.proofs.Storing.{Stored, stored-none, stored-more, stored-length}
+-- `stores_u64::store_trits` stores the five trits of a byte: two pairs, and the one left.
+use mathlib.Core.Path.{_∙_}
+use borrow.Author.Needs.{needs}
+use lib.ListN.{length-set}
+use Rattle.packed.proofs.Storing.{five-trits}
 use Rattle.packed.proofs.stores_u64.store_trits.Statement.{statement}
 use Rattle.packed.proofs.stores_u64.store_trits.Tie as tie
 
-abbrev Inv-loop : tie.InvT-loop
-Inv-loop out₀ at count table byte x₀ k₀ out x k = (k ≤ count) × Stored 3 5 (λ d. getD table d 0) out₀ at byte k out x
+store-pair-requires : tie.Need-store-pair-requires
+store-pair-requires c κs = search needs
 
-abbrev μ-loop : tie.MeasureT-loop
-μ-loop out₀ at count table byte x₀ k₀ out x k = count - k
+add-store-pair : tie.Need-add-store-pair
+add-store-pair c = search needs
 
-loop-holds : tie.Need-loop-holds Inv-loop μ-loop
-loop-holds c = (omega arith, stored-none 3 5 _ _ _ _)
+store-pair-requires-2 : tie.Need-store-pair-requires-2
+store-pair-requires-2 c κs = search needs
 
-cast-out : tie.Need-cast-out Inv-loop μ-loop
-cast-out c = omega arith
+cast-i : tie.Need-cast-i
+cast-i c = search needs
 
-mul-out : tie.Need-mul-out Inv-loop μ-loop
-mul-out c = omega arith
+mul-i : tie.Need-mul-i
+mul-i c = search needs
 
-element-copy-out-out : tie.Need-element-copy-out-out Inv-loop μ-loop
-element-copy-out-out c = omega arith
+mul-last : tie.Need-mul-last
+mul-last c = search needs
 
-add-out : tie.Need-add-out Inv-loop μ-loop
-add-out c = omega arith
+shared-slice-read-last : tie.Need-shared-slice-read-last
+shared-slice-read-last c = search needs
 
-mul-out-2 : tie.Need-mul-out-2 Inv-loop μ-loop
-mul-out-2 c = omega arith
+add-out : tie.Need-add-out
+add-out c = search needs
 
-slice-write-out : tie.Need-slice-write-out Inv-loop μ-loop
-slice-write-out c = omega (arith, stored-length 3 5 _ _ _ _ (omega arith) (omega arith) (c .before .before .loop .inv .1))
+mul-out : tie.Need-mul-out
+mul-out c = search needs
 
-add-k : tie.Need-add-k Inv-loop μ-loop
-add-k c = omega arith
+slice-write-out : tie.Need-slice-write-out
+slice-write-out c = search needs
 
-loop-less : tie.Need-loop-less Inv-loop μ-loop
-loop-less c = omega arith
+same-length : tie.Need-same-length
+same-length c = simp length-set (c .before .before .before .store-pair2 .kept .0 ∙ c .before .before .before .before .before .before .before .store-pair .kept .0)
 
-loop-again : tie.Need-loop-again Inv-loop μ-loop
-loop-again c =
-    (omega arith, stored-more 3 5 _ _ _ _ (omega arith) (omega arith) (c .before .before .loop .inv .1))
-
-same-length : tie.Need-same-length Inv-loop μ-loop
-same-length c = stored-length 3 5 _ _ _ _ (omega arith) (omega arith) (c .before .loop .inv .1)
-
-returns : tie.Need-returns Inv-loop μ-loop
-returns c = rw (le-antisymm (c .loop-test .left) (c .before .loop .inv .0)) (c .before .loop .inv .1 .holds)
+returns : tie.Need-returns
+returns c =
+    let start = c .before .before .before .before .before .before .before .before .before .before .before in
+    five-trits _ _ _ _ _ (start .pre .0) (start .pre .1) (start .pre .2) (c .before .before .before .before .before .before .before .store-pair .ensures) (c .before .before .before .store-pair2 .ensures)
 
 pub store-trits-spec : {M : Type 1} → statement M
 store-trits-spec =
     tie.close
     (tie.spec
-    Inv-loop
-    μ-loop
-    loop-holds
-    cast-out
-    mul-out
-    element-copy-out-out
+    store-pair-requires
+    add-store-pair
+    store-pair-requires-2
+    cast-i
+    mul-i
+    mul-last
+    shared-slice-read-last
     add-out
-    mul-out-2
+    mul-out
     slice-write-out
-    add-k
-    loop-less
-    loop-again
     same-length
     returns)

@@ -1,82 +1,49 @@
--- `ternary::sample_sparse_ternary_values_to_u64` is the rule's draw: refused early, short of words, or filled from the table.
+-- `ternary::sample_sparse_ternary_values_to_u64` is the rule's draw: the table of pairs holds the rule's values.
+use mathlib.Core.List.{map, [], _∷_}
 use mathlib.Core.Path.{refl}
-use Prim.Native.Nat.{_≤_}
 use native.Mathlib.Omega.{arith}
-use lib.ListN.{length}
+use borrow.Author.Needs.{needs}
 use Rattle.distr.specs.Packed.{sparseValue}
 use Rattle.distr.specs.Encoding.{encodeWith}
-use Rattle.packed.proofs.Deciding.{early-passed, refused, packed-lacking, packed-reached, below-four, encoded-minus}
+use Rattle.packed.proofs.Pairing.{made-paired, made-agrees}
+use Rattle.packed.proofs.Deciding.{below-four, encoded-minus}
 use Rattle.packed.proofs.ternary.sample_sparse_ternary_values_to_u64.Statement.{statement}
 use Rattle.packed.proofs.ternary.sample_sparse_ternary_values_to_u64.Tie as tie
 
-early-number-requires : tie.Need-early-number-requires
-early-number-requires c κs = tt
-
-returns : tie.Need-returns
-returns c = refused _ (encodeWith _) (λ cs. refl) _ _ _ _ (c .before .early-number .ensures) (c .if1 .taken)
-
--- what the early tests leave
-passed : (c : tie.Else1)
-    → let a = c .before .before .before .before .args in (a .place ≤ length (a .words .now)) × (length (a .result .now) ≤ 65536)
-passed c =
-    let a = c .before .before .before .before .args in
-    early-passed (length (a .words .now)) (a .place) (length (a .result .now)) (c .before .early-number .ensures) (c .if1 .left)
+groups-requires : tie.Need-groups-requires
+groups-requires c κs = search needs
 
 sparse-words-requires : tie.Need-sparse-words-requires
-sparse-words-requires c κs = passed c .1
+sparse-words-requires c κs = search needs
 
-sub-if2 : tie.Need-sub-if2
-sub-if2 c = passed (c .before) .0
+slice-aggregate-draw-u64 : tie.Need-slice-aggregate-draw-u64
+slice-aggregate-draw-u64 c = search needs
 
-clear-u64-requires : tie.Need-clear-u64-requires
-clear-u64-requires c κs = tt
+draw-u64-requires : tie.Need-draw-u64-requires
+draw-u64-requires c κs =
+    let start = c .before .before .before .before .before .before in
+    let minus = start .args .minus-one in
+    (made-paired 0 (0 ∷ 0 ∷ 1 ∷ minus ∷ []) (omega arith) (c .before .before .before .groups .ensures), omega arith)
 
 same-length : tie.Need-same-length
-same-length c = c .before .before .clear-u64 .kept .0
+same-length c = search needs
 
-returns-2 : tie.Need-returns-2
-returns-2 c =
+returns : tie.Need-returns
+returns c =
     let called = c .before .before in
-    let test = called .before .before in
-    let judged = test .before .before in
-    let a = judged .before .before .before .before .args in
-    packed-lacking _ (encodeWith _) (λ cs. refl) 4 16 _ sparseValue (a .words .now) (a .place) (a .result .now)
-    (judged .before .early-number .ensures) (judged .if1 .left)
-    (test .before .sparse-words .ensures) (test .if2 .taken) (called .clear-u64 .ensures)
-
-fill-pairs-requires : tie.Need-fill-pairs-requires
-fill-pairs-requires c κs = omega (arith, passed (c .before .before .before .before))
-
-add-t11 : tie.Need-add-t11
-add-t11 c = omega arith
-
-same-length-2 : tie.Need-same-length-2
-same-length-2 c = c .before .before .fill-pairs .kept .0
-
-returns-3 : tie.Need-returns-3
-returns-3 c =
-    let called = c .before .before in
-    let test = called .before .before .before in
-    let judged = test .before .before in
-    let start = judged .before .before .before .before in
-    let a = start .args in
-    packed-reached _ (encodeWith _) (λ cs. refl) 4 16 _ sparseValue (a .words .now) (a .place) (a .result .now)
-    (judged .before .early-number .ensures) (judged .if1 .left)
-    _ (omega arith) (below-four _ refl refl refl (encoded-minus _))
-    (test .before .sparse-words .ensures) (test .if2 .left) (omega arith) (called .fill-pairs .ensures)
+    let start = called .before .before .before .before .before .before .before in
+    let minus = start .args .minus-one in
+    rw (called .before .before .before .sparse-words .ensures) at
+    (called .draw-u64 .ensures .serves (map (encodeWith minus)) (encodeWith minus) sparseValue (λ cs. refl) refl
+    (made-agrees 0 (0 ∷ 0 ∷ 1 ∷ minus ∷ []) (omega arith) (called .before .before .before .before .groups .ensures) _ (below-four _ refl refl refl (encoded-minus _))))
 
 pub sample-sparse-ternary-values-to-u64-spec : {M : Type 1} → statement M
 sample-sparse-ternary-values-to-u64-spec =
     tie.close
     (tie.spec
-    early-number-requires
-    returns
+    groups-requires
     sparse-words-requires
-    sub-if2
-    clear-u64-requires
+    slice-aggregate-draw-u64
+    draw-u64-requires
     same-length
-    returns-2
-    fill-pairs-requires
-    add-t11
-    same-length-2
-    returns-3)
+    returns)

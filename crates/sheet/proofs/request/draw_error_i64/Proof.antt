@@ -4,7 +4,7 @@ use mathlib.Core.Bool.{Bool}
 use Rattle.distr.specs.Distribution.{Distr}
 use Rattle.distr.specs.Draw.{signedDraw}
 use Rattle.sheet.specs.Sheet.{noTables}
-use Rattle.sheet.proofs.Requests.{error-refused, error-drawn}
+use Rattle.error_sampler.proofs.Calls.{made-refused, made-drawn}
 use borrow.Author.Needs.{needs}
 use Rattle.sheet.proofs.request.draw_error_i64.Statement.{statement}
 use Rattle.sheet.proofs.request.draw_error_i64.Tie as tie
@@ -13,7 +13,8 @@ try-new-requires : tie.Need-try-new-requires
 try-new-requires c κs = search needs
 
 returns : tie.Need-returns
-returns c = error-refused (c .before .before .before .args .distr) (c .before .try-new .result) _ _ (c .before .try-new .ensures) (c .if1 .taken)
+returns c =
+    made-refused (c .before .before .before .args .distr) (c .before .try-new .result) (c .before .try-new .ensures) 0 _ _ (c .if1 .taken)
 
 array-share-prefix-numbers : tie.Need-array-share-prefix-numbers
 array-share-prefix-numbers c = search needs
@@ -38,7 +39,9 @@ returns-2 c =
     let start = c .before .before .before .before .before .before .before .before .before in
     let made = c .before .before .before .before .before .before .before .try-new in
     c .before .sample-signed-to .ensures
-    ∙ error-drawn (λ (b : Bool) (d : Distr). signedDraw b d noTables (start .args .words .now) 0 (start .args .output .now)) (start .args .distr) (made .result) _ (made .ensures) (c .before .before .before .before .before .before .if1 .left)
+    ∙ made-drawn (start .args .distr) (made .result) (made .ensures) 0 _
+    (λ (b : Bool) (d : Distr). signedDraw b d noTables (start .args .words .now) 0 (start .args .output .now))
+    (c .before .before .before .before .before .before .if1 .left)
 
 pub draw-error-i64-spec : {M : Type 1} → statement M
 draw-error-i64-spec =

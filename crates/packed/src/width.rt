@@ -1,0 +1,7 @@
+// How a word is cut into digits, lowest first.
+pub(crate) enum Width {
+    // 32 bits.
+    Bits,
+    // 16 two-bit groups.
+    Groups,
+}

@@ -1,0 +1,51 @@
+-- `digest_encoded` is safe and ends: the elements that are left become fewer.
+use Prim.Native.Nat.{_-_}
+use lib.ListN.{length}
+use borrow.Author.Needs.{needs}
+use Rattle.rust_answers.proofs.output.digest_encoded.Statement.{statement}
+use Rattle.rust_answers.proofs.output.digest_encoded.Tie as tie
+
+abbrev Inv-loop : tie.InvT-loop
+Inv-loop output digest₀ i₀ digest i = Unit {0}
+
+abbrev μ-loop : tie.MeasureT-loop
+μ-loop output digest₀ i₀ digest i = length output - i
+
+loop-holds : tie.Need-loop-holds Inv-loop μ-loop
+loop-holds c = search needs
+
+mul-digest-with : tie.Need-mul-digest-with Inv-loop μ-loop
+mul-digest-with c = search needs
+
+shared-slice-read-digest-with : tie.Need-shared-slice-read-digest-with Inv-loop μ-loop
+shared-slice-read-digest-with c = search needs
+
+digest-with-requires : tie.Need-digest-with-requires Inv-loop μ-loop
+digest-with-requires c κs = search needs
+
+add-i : tie.Need-add-i Inv-loop μ-loop
+add-i c = search needs
+
+loop-less : tie.Need-loop-less Inv-loop μ-loop
+loop-less c = search needs
+
+loop-again : tie.Need-loop-again Inv-loop μ-loop
+loop-again c = search needs
+
+returns : tie.Need-returns Inv-loop μ-loop
+returns c = search needs
+
+pub digest-encoded-spec : {M : Type 1} → statement M
+digest-encoded-spec =
+    tie.close
+    (tie.spec
+    Inv-loop
+    μ-loop
+    loop-holds
+    mul-digest-with
+    shared-slice-read-digest-with
+    digest-with-requires
+    add-i
+    loop-less
+    loop-again
+    returns)
