@@ -9,6 +9,7 @@ mod signed;
 pub use crt::beside_crt;
 pub use encoded::beside_encoded;
 use make::Made;
+pub use signed::beside_signed;
 ghost use mathlib.Core.Path.{_≡_};
 ghost use Rattle.beside.specs.Calls.{madeNumber, named};
 

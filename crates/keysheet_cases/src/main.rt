@@ -1,5 +1,21 @@
 // Answers the sheets in the files that its arguments name: for each a line with its name, and then the answer.
 use libc::STDOUT_FILENO;
+ghost use mathlib.Core.Path.{_≡_};
+ghost use lib.ListN.{length};
+
+// Room for a sheet and one byte more. The `ensures` gives the length, which lending the array needs.
+fn sheet_room() -> [u8; 65537]
+    ensures { λ r. ⌜ 65537 ≡ length r ⌝ }
+{
+    [0; 65537]
+}
+
+// Room for any answer.
+fn text_room() -> [u8; 98304]
+    ensures { λ r. ⌜ 98304 ≡ length r ⌝ }
+{
+    [0; 98304]
+}
 
 // The name of a case, and the answer to its sheet.
 fn print_case(i: usize) {
@@ -13,10 +29,10 @@ fn print_case(i: usize) {
         os::fail(&path[..end]);
         return;
     }
-    let mut bytes = sheet::sheet_room();
+    let mut bytes = sheet_room();
     let size = io::read_full(fd, &mut bytes);
     libc::close(fd);
-    let mut text = sheet::text_room();
+    let mut text = text_room();
     let length = sheet::answer_sheet(&bytes[..size], &mut text);
     io::write_all(STDOUT_FILENO, &text[..length]);
 }

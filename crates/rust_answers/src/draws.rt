@@ -114,8 +114,62 @@ fn signed(
     judged(asked, number, place, same_signed(output, told, told_signs))
 }
 
-// A draw of residues of one modulus: n stands at index 8, and the modulus at 9.
-fn encoded(
+// The number of a draw of residues: of one modulus, which stands at index 9, or of several, with the coefficients at 9 and the
+// number of moduli at 10.
+fn residues_number(
+    distr: Distr,
+    place: usize,
+    values: &[u64],
+    bounds: &[u64],
+    endpoints: &[u64],
+    heights: &[f64],
+    curve: &[f64],
+    words: &[u32],
+    output: &mut [u64],
+    new_place: &mut usize,
+) -> u32 {
+    if value_at(values, 0) == 3 {
+        let modulus = value_at(values, 9);
+        return beside::beside_encoded(
+            distr.kind,
+            distr.a,
+            distr.b,
+            distr.p,
+            distr.q,
+            modulus,
+            bounds,
+            endpoints,
+            heights,
+            curve,
+            words,
+            place,
+            output,
+            new_place,
+        );
+    }
+    let count = size_at(values, 9);
+    let moduli = part(values, 11, words_begin(values));
+    beside::beside_crt(
+        distr.kind,
+        distr.a,
+        distr.b,
+        distr.p,
+        distr.q,
+        count,
+        moduli,
+        bounds,
+        endpoints,
+        heights,
+        curve,
+        words,
+        place,
+        output,
+        new_place,
+    )
+}
+
+// A draw of residues: n, or the length of all rows, stands at index 8.
+fn residues(
     distr: Distr,
     asked: Asked,
     values: &[u64],
@@ -134,116 +188,19 @@ fn encoded(
     let mut room = residues_room();
     let output = &mut room[0..n];
     let mut place = 0;
-    let number = beside::beside_encoded(
-        distr.kind,
-        distr.a,
-        distr.b,
-        distr.p,
-        distr.q,
-        value_at(values, 9),
+    let number = residues_number(
+        distr,
+        asked.place,
+        values,
         bounds,
         endpoints,
         heights,
         curve,
         words,
-        asked.place,
         output,
         &mut place,
     );
     judged(asked, number, place, same_encoded(output, told, told_signs))
-}
-
-// A draw of residues of several moduli: the length stands at index 8, the coefficients at 9, the number of moduli at 10.
-fn crt(
-    distr: Distr,
-    asked: Asked,
-    values: &[u64],
-    bounds: &[u64],
-    endpoints: &[u64],
-    heights: &[f64],
-    curve: &[f64],
-    words: &[u32],
-    told: &[u64],
-    told_signs: &[bool],
-) -> Verdict {
-    let n = size_at(values, 8);
-    if LENGTH < n {
-        return Verdict::Unreadable;
-    }
-    let mut room = residues_room();
-    let output = &mut room[0..n];
-    let mut place = 0;
-    let number = beside::beside_crt(
-        distr.kind,
-        distr.a,
-        distr.b,
-        distr.p,
-        distr.q,
-        size_at(values, 9),
-        part(values, 11, words_begin(values)),
-        bounds,
-        endpoints,
-        heights,
-        curve,
-        words,
-        asked.place,
-        output,
-        &mut place,
-    );
-    judged(asked, number, place, same_encoded(output, told, told_signs))
-}
-
-// The call that the first number of a line asks for.
-fn call(
-    distr: Distr,
-    asked: Asked,
-    values: &[u64],
-    bounds: &[u64],
-    endpoints: &[u64],
-    heights: &[f64],
-    curve: &[f64],
-    words: &[u32],
-    told: &[u64],
-    told_signs: &[bool],
-) -> Verdict {
-    match value_at(values, 0) {
-        2 => signed(
-            distr,
-            asked,
-            values,
-            bounds,
-            endpoints,
-            heights,
-            curve,
-            words,
-            told,
-            told_signs,
-        ),
-        3 => encoded(
-            distr,
-            asked,
-            values,
-            bounds,
-            endpoints,
-            heights,
-            curve,
-            words,
-            told,
-            told_signs,
-        ),
-        _ => crt(
-            distr,
-            asked,
-            values,
-            bounds,
-            endpoints,
-            heights,
-            curve,
-            words,
-            told,
-            told_signs,
-        ),
-    }
 }
 
 // A line of a draw: `2` DISTR n, `3` DISTR n modulus, or `4` DISTR length coefficients moduli-count modulus.., and then
@@ -276,7 +233,21 @@ pub(crate) fn draw(
     fill_words(words, part(rest, 3, asked.words_end), asked.seed);
     let told = part(rest, asked.output, rest.len());
     let told_signs = signs_part(rest_signs, asked.output, rest_signs.len());
-    call(
+    if value_at(values, 0) == 2 {
+        return signed(
+            distr,
+            asked,
+            values,
+            bounds,
+            endpoints,
+            heights,
+            curve,
+            words,
+            told,
+            told_signs,
+        );
+    }
+    residues(
         distr,
         asked,
         values,

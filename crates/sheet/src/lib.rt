@@ -18,20 +18,6 @@ fn no_words() -> [u32; 8192]
     [0; 8192]
 }
 
-// Room for a sheet and one byte more, so that a longer one is refused. The `ensures` gives the length, which lending the array needs.
-pub fn sheet_room() -> [u8; 65537]
-    ensures { λ r. ⌜ 65537 ≡ length r ⌝ }
-{
-    [0; 65537]
-}
-
-// Room for any answer.
-pub fn text_room() -> [u8; 98304]
-    ensures { λ r. ⌜ 98304 ≡ length r ⌝ }
-{
-    [0; 98304]
-}
-
 // Answers a sheet. The text's length is handed back; it stands at the start of `text`, which must have 98,304 bytes, or it is left as it was.
 pub fn answer_sheet(sheet: &[u8], text: &mut [u8]) -> usize
     ensures { λ r. ⌜ (r, now (text .exit)) ≡ answered (now (sheet .entry)) (now (text .entry)) ⌝ }

@@ -13,7 +13,7 @@ const WORDS: usize = 1 << 21;
 const MOST_WORDS: usize = 8;
 /// Coefficients drawn in one round, at least.
 const ROUND: usize = 65_536;
-/// Calls for no coefficients in one round.
+/// Calls in one round of the fixed costs.
 const EMPTY_CALLS: usize = 64;
 const MODULUS: u64 = 12_289;
 const MODULI: [u64; 3] = [12_289, 4_294_967_311, 1 << 63];
@@ -97,16 +97,22 @@ impl Bench {
         (begin.elapsed().as_nanos() as f64 / (calls * n) as f64, place)
     }
 
-    /// Nanoseconds of one call of ours for no coefficients: making the sampler, every test and the check of the tables.
-    fn empty_call(&mut self, prepared: &Prepared) -> f64 {
+    /// Nanoseconds of our making of a sampler, and of a whole signed call for no coefficients, which makes one, tests it and checks the tables.
+    fn fixed_costs(&mut self, prepared: &Prepared) -> [f64; 2] {
         let ours = OtherSide.make(&prepared.distr).expect("made by both");
-        let mut least = f64::INFINITY;
+        let mut least = [f64::INFINITY; 2];
         for _ in 0..self.rounds {
             let begin = Instant::now();
             for _ in 0..EMPTY_CALLS {
-                self.call(&OtherSide, &ours, &Call::Signed { n: 0 }, &prepared.tables, 0);
+                black_box(OtherSide.make(black_box(&prepared.distr)).is_ok());
             }
-            least = least.min(begin.elapsed().as_nanos() as f64 / EMPTY_CALLS as f64);
+            let made = begin.elapsed();
+            for _ in 0..EMPTY_CALLS {
+                black_box(OtherSide.signed(&ours, &prepared.tables, &self.words, 0, &mut self.signed[..0]));
+            }
+            let both = begin.elapsed();
+            least[0] = least[0].min(made.as_nanos() as f64 / EMPTY_CALLS as f64);
+            least[1] = least[1].min((both - made).as_nanos() as f64 / EMPTY_CALLS as f64);
         }
         least
     }
@@ -154,8 +160,9 @@ fn main() {
             row("CRT of 3", &Prepared::new(Distr { kind, ..distr }), call);
         }
     }
-    println!("\n| draw of no coefficients | other ns |\n|---|---|");
-    for (name, distr) in distributions(0).into_iter().filter(|(_, distr)| distr.kind == Kind::Gaussian) {
-        println!("| {name} | {:.0} |", bench.empty_call(&Prepared::new(distr)));
+    println!("\n| draw | making, ns | call for no coefficients, ns |\n|---|---|---|");
+    for (name, distr) in distributions(LENGTHS[0]) {
+        let [made, empty] = bench.fixed_costs(&Prepared::new(distr));
+        println!("| {name} | {made:.0} | {empty:.0} |");
     }
 }
