@@ -1,7 +1,6 @@
 // What an output type adds: the loops that store.
 use crate::index;
 use gaussian_core::encode;
-ghost use mathlib.Core.Path.{_≡_};
 ghost use Prim.Native.Nat.{_+_, _*_, _≤_};
 ghost use lib.Dec.{T};
 ghost use lib.ListN.{length};

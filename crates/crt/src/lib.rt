@@ -5,7 +5,7 @@ ghost use mathlib.Core.Path.{_≡_};
 ghost use mathlib.Core.List.{_∷_, map};
 ghost use Prim.Native.Nat.{_*_, _-_, _≤_};
 ghost use lib.Dec.{eqb};
-ghost use lib.ListN.{length, drop, replicate};
+ghost use lib.ListN.{length, drop};
 ghost use lib.Seq.{paste};
 ghost use Rattle.distr.specs.Encoding.{row};
 ghost use Rattle.distr.specs.Numbers.{firstOf, shapeNumber, tooLong, moduliNumbers};

@@ -6,3 +6,4 @@ pub mod Signed
 pub mod Encoded
 pub mod Bounds
 pub mod Crt
+pub mod Making

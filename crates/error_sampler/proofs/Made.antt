@@ -1,15 +1,16 @@
 -- Number 21: a sampler passes the test exactly when some distribution's making gives it.
-use mathlib.Core.Path.{_≡_, refl, _∙_, ap, subst}
+use mathlib.Core.Path.{_≡_, refl, _∙_, ap}
 use mathlib.Core.Bool.{Bool, true, false, _&&_}
 use lib.Dec.{T, eqb, eqb→eq}
 use lib.Ieee.{binary64, eq, fits, round}
 use lib.Ieee.Fits.{and-l, and-r}
 use lib.Ieee.Positive.{positive-finite}
-use borrow.Author.Tests.{eqb-true, eqb-false, eq-eqb}
+use borrow.Author.Tests.{eq-eqb}
 use Rattle.distr.specs.declared.error_distribution.ErrorDistribution.{ErrorDistribution}
 use Rattle.distr.specs.declared.error_distribution.ErrorDistribution.the-variants as Distr
 use Rattle.distr.specs.Distribution.{error}
 use Rattle.distr.specs.Making.{errorNumber, makingNumber, largest}
+use Rattle.draw_laws.proofs.Making.{Makes, given-good}
 use Rattle.gaussian_core.proofs.Made.{made-positive}
 use Rattle.gaussian_core.proofs.SameFloat.{eq-same, eq-self}
 use Rattle.error_sampler.specs.declared.ErrorSampler.{ErrorSampler}
@@ -88,13 +89,31 @@ kept-equal (Distr.CenteredBinomial eta) z = refl
 pub own-made : (d : ErrorDistribution) → errorNumber d ≡ 0 → T (isMade (record { distribution = d; method = prepared d }))
 own-made d z = rw (z, same-itself (methodFields (prepared d)) (kept-equal d z)) tt
 
+-- How it is made, for the laws of making.
+pub own-judge : (d : ErrorDistribution) → makingNumber (error d) ≡ errorNumber d
+unfolding makingNumber
+own-judge d = refl
+
+abbrev pub makes : Makes ErrorDistribution ErrorSampler MadeSampler
+makes = record {
+  kind = error;
+  judge = errorNumber;
+  own = λ d. record { distribution = d; method = prepared d };
+  empty = emptySampler;
+  good = isMade;
+  distrOf = λ s. s .distribution;
+  made = λ n s. record { number = n; sampler = s };
+  number = λ r. r .number;
+  sampler = λ r. r .sampler;
+  judges = own-judge;
+  own-good = own-made;
+  own-distr = λ d. refl;
+  says = λ k s. refl;
+  holds = λ k s. refl;
+}
+
 pub some-made : (s : ErrorSampler) (d : ErrorDistribution) → making d ≡ record { number = 0; sampler = s } → T (isMade s)
-some-made s d h = go (eqb (errorNumber d) 0) refl
-  where
-    go : (b : Bool) → eqb (errorNumber d) 0 ≡ b → T (isMade s)
-    go true e =
-        subst (λ (t : ErrorSampler). T (isMade t)) (ap (λ (r : MadeSampler). r .sampler) (rw e at h)) (own-made d (eqb-true (errorNumber d) 0 e))
-    go false e = absurd (eqb-false (errorNumber d) 0 e (ap (λ (r : MadeSampler). r .number) (rw e at h)))
+some-made s d = given-good makes d s
 
 -- "The empty one included."
 pub empty-not-made : isMade emptySampler ≡ false

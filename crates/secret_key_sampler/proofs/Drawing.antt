@@ -1,5 +1,5 @@
 -- A method prepared for a distribution draws as the distribution does: signed, and encoded where the modulus is above the largest magnitude.
-use mathlib.Core.Path.{_≡_, sym, ap, _∙_, subst}
+use mathlib.Core.Path.{_≡_, sym, ap, subst}
 use mathlib.Core.Bool.{Bool, true, not}
 use mathlib.Core.List.{List}
 use Prim.Native.Nat.{ℕ, _-_, _<_}

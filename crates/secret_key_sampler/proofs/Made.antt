@@ -1,7 +1,7 @@
 -- Number 21: a sampler passes the test exactly when some distribution's making gives it.
 use Prim.Native.Nat.{ℕ}
 use native.Mathlib.Omega.{arith}
-use mathlib.Core.Path.{_≡_, refl, sym, _∙_, ap, subst}
+use mathlib.Core.Path.{_≡_, refl, sym, _∙_, ap}
 use mathlib.Core.List.{List, [], _∷_}
 use lib.ListN.{getD}
 use mathlib.Core.Bool.{Bool, true, false, cond, _&&_, Bool·beq}
@@ -9,7 +9,7 @@ use lib.Dec.{T, eqb, eqb→eq}
 use lib.Ieee.{Float, binary64, eq, fits, round}
 use lib.Ieee.Fits.{and-l, and-r}
 use lib.Ieee.Positive.{positive, positive-finite}
-use borrow.Author.Tests.{eqb-true, eqb-false, eq-eqb}
+use borrow.Author.Tests.{eqb-true, eq-eqb}
 use Rattle.distr.specs.declared.secret_key_distr.SecretKeyDistr.{SecretKeyDistr}
 use Rattle.distr.specs.declared.secret_key_distr.SecretKeyDistr.the-variants as Distr
 use Rattle.distr.specs.declared.secret_key_distr.BlockOccupancy.the-variants.{AtMostOne, ExactlyOne}
@@ -21,6 +21,7 @@ use Rattle.ternary.specs.declared.ternary.TernaryValue.the-variants.{MinusOne, 
 use Rattle.ternary.specs.declared.ternary.TernarySampler.{TernarySampler}
 use Rattle.ternary.specs.declared.ternary.TernarySampler.the-variants.{Constant, Nonzero, General}
 use Rattle.ternary.specs.Sampler.{samplerOf}
+use Rattle.draw_laws.proofs.Making.{Makes, given-good}
 use Rattle.gaussian_core.proofs.Made.{made-positive}
 use Rattle.gaussian_core.proofs.SameFloat.{beq-same, beq-self, eq-same, eq-self}
 use Rattle.secret_key_sampler.specs.declared.SecretKeySampler.{SecretKeySampler}
@@ -178,16 +179,34 @@ made-some s f h = (s .distr, rw (made-number s h, ← made-method s f h))
 same-itself : (a : MethodFields) → eq (a .deviation) (a .deviation) ≡ true → sameFields a a ≡ true
 same-itself a e = rw (eq-eqb (a .kind) (a .kind) refl, beq-self (a .full), eq-eqb (a .first) (a .first) refl, eq-eqb (a .second) (a .second) refl, e)
 
-own-made : (d : SecretKeyDistr) → secretNumber d ≡ 0 → T (isMade (record { distr = d; method = prepared d }))
+pub own-made : (d : SecretKeyDistr) → secretNumber d ≡ 0 → T (isMade (record { distr = d; method = prepared d }))
 own-made d z = rw (z, same-itself (methodFields (prepared d)) (kept-equal _ _ (kept d z))) tt
 
+-- How it is made, for the laws of making.
+pub own-judge : (d : SecretKeyDistr) → makingNumber (secret d) ≡ secretNumber d
+unfolding makingNumber
+own-judge d = refl
+
+abbrev pub makes : Makes SecretKeyDistr SecretKeySampler MadeSampler
+makes = record {
+  kind = secret;
+  judge = secretNumber;
+  own = λ d. record { distr = d; method = prepared d };
+  empty = emptySampler;
+  good = isMade;
+  distrOf = λ s. s .distr;
+  made = λ n s. record { number = n; sampler = s };
+  number = λ r. r .number;
+  sampler = λ r. r .sampler;
+  judges = own-judge;
+  own-good = own-made;
+  own-distr = λ d. refl;
+  says = λ k s. refl;
+  holds = λ k s. refl;
+}
+
 pub some-made : (s : SecretKeySampler) (d : SecretKeyDistr) → making d ≡ record { number = 0; sampler = s } → T (isMade s)
-some-made s d h = go (eqb (secretNumber d) 0) refl
-  where
-    go : (b : Bool) → eqb (secretNumber d) 0 ≡ b → T (isMade s)
-    go true e =
-        subst (λ (t : SecretKeySampler). T (isMade t)) (ap (λ (r : MadeSampler). r .sampler) (rw e at h)) (own-made d (eqb-true (secretNumber d) 0 e))
-    go false e = absurd (eqb-false (secretNumber d) 0 e (ap (λ (r : MadeSampler). r .number) (rw e at h)))
+some-made s d = given-good makes d s
 
 -- "The empty one included."
 pub empty-not-made : isMade emptySampler ≡ false
