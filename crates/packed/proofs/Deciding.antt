@@ -39,24 +39,24 @@ module _ {A : Type 0} (base : ℕ) (g h : ℕ → A) (positive : 0 < base) (same
   map-taken n count xs =
       map-take g n (split base count xs) ∙ ap (take n) (map-split count xs) ∙ sym (map-take h n (split base count xs))
 
+-- A draw by one rule, where the early numbers let it pass.
 module _ {A : Type 0} (write : List ℤ → List A) (f : ℤ → A) (writes : (cs : List ℤ) → write cs ≡ map f cs)
-    (rule : Rule) (words : List ℕ) (place : ℕ) (out : List A) where
-  module _ {k : ℕ} (early : k ≡ earlyNumber (length words) place (length out)) (good : k ≡ 0) where
-    -- 23: the place stays, and the output is zeros
-    pub lacking : {out′ : List A} → readBy rule (drop place words) ≡ short → out′ ≡ replicate (length out) (f (pos 0))
-        → record { number = 23; place = place; output = out′ } ≡ ruleDraw write 0 rule words place out
-    lacking e o =
-        let passed = early-passed (length words) place (length out) early good in
-        ap (λ (l : List A). record { number = 23; place = place; output = l }) (o ∙ sym (map-replicate f (length out) (pos 0)) ∙ sym (writes _))
-        ∙ sym (rule-short write 0 rule words place out (passed .0) (passed .1) refl e)
+    (rule : Rule) (words : List ℕ) (place : ℕ) (out : List A) {k : ℕ} (early : k ≡ earlyNumber (length words) place (length out)) (good : k ≡ 0) where
+  -- 23: the place stays, and the output is zeros
+  lacking : {out′ : List A} → readBy rule (drop place words) ≡ short → out′ ≡ replicate (length out) (f (pos 0))
+      → record { number = 23; place = place; output = out′ } ≡ ruleDraw write 0 rule words place out
+  lacking e o =
+      let passed = early-passed (length words) place (length out) early good in
+      ap (λ (l : List A). record { number = 23; place = place; output = l }) (o ∙ sym (map-replicate f (length out) (pos 0)) ∙ sym (writes _))
+      ∙ sym (rule-short write 0 rule words place out (passed .0) (passed .1) refl e)
 
-    -- 0: the place after the words read, and the coefficients as the output holds them
-    pub reached : (cs : List ℤ) (rest : List ℕ) {out′ : List A} {at : ℕ} → readBy rule (drop place words) ≡ got cs rest
-        → at ≡ length words - length rest → out′ ≡ map f cs → record { number = 0; place = at; output = out′ } ≡ ruleDraw write 0 rule words place out
-    reached cs rest e p o =
-        let passed = early-passed (length words) place (length out) early good in
-        ap₂ (λ (j : ℕ) (l : List A). record { number = 0; place = j; output = l }) p (o ∙ sym (writes cs))
-        ∙ sym (rule-got write 0 rule words place out (passed .0) (passed .1) refl cs rest e)
+  -- 0: the place after the words read, and the coefficients as the output holds them
+  reached : (cs : List ℤ) (rest : List ℕ) {out′ : List A} {at : ℕ} → readBy rule (drop place words) ≡ got cs rest
+      → at ≡ length words - length rest → out′ ≡ map f cs → record { number = 0; place = at; output = out′ } ≡ ruleDraw write 0 rule words place out
+  reached cs rest e p o =
+      let passed = early-passed (length words) place (length out) early good in
+      ap₂ (λ (j : ℕ) (l : List A). record { number = 0; place = j; output = l }) p (o ∙ sym (writes cs))
+      ∙ sym (rule-got write 0 rule words place out (passed .0) (passed .1) refl cs rest e)
 
 -- Draws packed into m words: the early numbers decide, and then the test of the words' number, whatever rule the entries hold the values of.
 module _ {A : Type 0} (z : A) (entry : ℕ → A) (base each m : ℕ) (words : List ℕ) (place : ℕ) (out : List A)

@@ -1,4 +1,4 @@
-// How many words a packed draw of n values takes.
+// How many words a packed draw of n values takes, rounded up without a sum that could wrap.
 ghost use mathlib.Core.Path.{_≡_};
 ghost use Prim.Native.Nat.{_+_, _/_};
 

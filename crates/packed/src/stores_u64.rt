@@ -14,7 +14,7 @@ ghost use Rattle.packed.specs.Pairs.{singles, Paired, pairSet};
 ghost use Rattle.packed.specs.Cutting.{baseOf, eachOf};
 ghost use Rattle.packed.specs.Reach.{reading};
 
-// Stores the pair q.
+// Stores the two numbers of the pair q, at `at` and after it.
 fn store_pair(out: &mut [u64], at: usize, pairs: &[u64], q: u32)
     requires { ⌜ (at + 2 ≤ length (now out)) × (q * 2 + 2 ≤ length (now pairs)) ⌝ }
     ensures { λ r. ⌜ now (out .exit) ≡ pairSet 0 (now (pairs .entry)) (now (out .entry)) at q ⌝ }
@@ -67,7 +67,7 @@ fn store_trits(out: &mut [u64], at: usize, pairs: &[u64], byte: u32)
     out[at + 4] = last;
 }
 
-// What is left of the output from `at` on becomes the front of the part.
+// What is left of the output from `at` on becomes the front of the part: the digits of a last word or byte, stored aside whole.
 fn store_front(out: &mut [u64], at: usize, part: &[u64])
     requires { ⌜ (at ≤ length (now out)) × (length (now out) ≤ at + length (now part)) ⌝ }
     ensures { λ r. ⌜ now (out .exit) ≡ paste (now (out .entry)) at (now (part .entry)) (length (now (out .entry)) - at) ⌝ }
@@ -81,7 +81,8 @@ fn store_front(out: &mut [u64], at: usize, part: &[u64])
     }
 }
 
-// Fills the output with what the bits from `place` on stand for. The words are enough; the last one may have bits too many.
+// Fills the output with what the bits from `place` on stand for. The words are enough; where the last one has bits too many,
+// they are stored aside.
 fn fill_bits(out: &mut [u64], pairs: &[u64], words: &[u32], place: usize)
     requires { ⌜ (place + (length (now out) + 31) / 32 ≤ length (now words)) × Paired 2 0 (now pairs) ⌝ }
     ensures { λ r. ⌜ now (out .exit)
@@ -127,7 +128,7 @@ fn fill_groups(out: &mut [u64], pairs: &[u64], words: &[u32], place: usize)
     }
 }
 
-// Either of the two.
+// One of the two, by the width: it is asked once, so that the loops keep their constants.
 pub(crate) fn fill_words(out: &mut [u64], pairs: &[u64], width: Width, words: &[u32], place: usize)
     requires { ⌜ (place ≤ length (now words)) × (length (now out) ≤ (length (now words) - place) * eachOf width)
         × Paired (baseOf width) 0 (now pairs) ⌝ }
@@ -175,7 +176,7 @@ pub(crate) fn fill_trits(out: &mut [u64], pairs: &[u64], words: &[u32], place: u
                     store_trits(out, at, pairs, byte);
                     at += 5;
                 } else {
-                    let mut last = [0u64; 5];
+                    let mut last = [0u64; 8];
                     store_trits(&mut last, 0, pairs, byte);
                     store_front(out, at, &last);
                     at = n;

@@ -81,7 +81,7 @@ loop-less-3 c = omega arith
 loop-again-3 : tie.Need-loop-again-3 Inv-loop μ-loop
 loop-again-3 c =
     let test = c .before .before .before .before .before .before .before .before in
-    going-last _ _ _ _ _ (replicate 5 0) (omega arith) (omega arith) (omega arith) (test .before .if3 .taken) (test .before .before .before .before .loop .inv)
+    going-last _ _ _ _ _ (replicate 8 0) (omega arith) (omega arith) (omega arith) (test .before .if3 .taken) (test .before .before .before .before .loop .inv)
     (c .before .before .before .before .before .before .store-trits2 .ensures) (c .before .before .store-front .ensures)
 
 loop-less-4 : tie.Need-loop-less-4 Inv-loop μ-loop
