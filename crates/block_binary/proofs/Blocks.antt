@@ -18,6 +18,7 @@ use Rattle.distr.specs.Words.{Read, got, short, mapRead, bindRead, choose, choo
 use Rattle.distr.specs.Blocks.{block, blocksOf}
 use Rattle.distr.specs.Draw.{settled}
 use Rattle.distr.proofs.Reading.{map-read-twice, map-read-same}
+use Rattle.distr.proofs.Drawing.{settled-got, settled-short}
 use Rattle.distr.proofs.Writing.{map-append, map-replicate, map-set}
 use Rattle.words.specs.declared.Taken.the-variants.{Got, Short}
 use Rattle.words.specs.Reading.{taken}
@@ -93,27 +94,6 @@ onwards write size k xs m ws = mapRead (λ ss. xs ++ write (blocksOf size ss)) (
 -- the rule's reading of an output of n coefficients in blocks of a size, each by a choice among k
 abbrev pub wanted : ℕ → ℕ → ℕ → List ℕ → Read (List ℤ)
 wanted size k n ws = mapRead (blocksOf size) (chooseEach (replicate (n / size) k) ws)
-
--- the answer of a draw whose reading is known
-module _ {A : Type 0} (write : List ℤ → List A) (words : List ℕ) (place n : ℕ) where
-  settled-got : (r : Read (List ℤ)) (at : ℕ) (out : List A) → at ≤ length words → mapRead write r ≡ got out (drop at words)
-      → record { number = 0; place = at; output = out } ≡ settled write (length words) place n r
-  unfolding settled mapRead
-  settled-got (got cs rest) at out h e =
-      let same : got (write cs) rest ≡ got out (drop at words) = e in
-      let held : out ≡ write cs = cc in
-      let behind : drop at words ≡ rest = cc in
-      ap₂ (λ (i : ℕ) (l : List A). record { number = 0; place = i; output = l })
-      (sym (place-of words at h) ∙ ap (λ (l : List ℕ). length words - length l) behind) held
-  settled-got short at out h e =
-      let no : short ≡ got out (drop at words) = e in let z : _≡_ {A = ℕ} 0 1 = cc in absurd (omega arith)
-
-  settled-short : (r : Read (List ℤ)) (out : List A) → out ≡ write (replicate n (pos 0)) → mapRead write r ≡ short
-      → record { number = 23; place = place; output = out } ≡ settled write (length words) place n r
-  unfolding settled mapRead
-  settled-short (got cs rest) out o e =
-      let no : got (write cs) rest ≡ short = e in let z : _≡_ {A = ℕ} 0 1 = cc in absurd (omega arith)
-  settled-short short out o e = ap (λ (l : List A). record { number = 23; place = place; output = l }) o
 
 module _ {A : Type 0} (write : List ℤ → List A) {z o : A} (holds : Holds write z o) (size k : ℕ) (xs : List A) (ws : List ℕ) where
   -- none is left to fill; a word is missing; a choice fills one
@@ -207,16 +187,16 @@ module _ {A : Type 0} {write : List ℤ → List A} {z o : A} (holds : Holds wri
         → record { number = 23; place = place; output = out′ } ≡ settled write (length words) place n (wanted size k n (drop place words))
     turn-short {out′} e c =
         let m = some-left h in
-        settled-short write words place n (wanted size k n (drop place words)) out′
-        (c ∙ ap (λ (j : ℕ). replicate j z) (t .kept) ∙ sym (holds .zeros n))
+        settled-short write (length words) place n out′ (wanted size k n (drop place words))
         (sym (t .reading) ∙ ap (λ (j : ℕ). onwards write size k (take start out) j (drop at words)) (m .1)
         ∙ onwards-short write holds size k (take start out) (drop at words) (m .0) (taken-short (length words) (choose k (drop at words)) e))
+        (c ∙ ap (λ (j : ℕ). replicate j z) (t .kept) ∙ sym (holds .zeros n))
 
   -- every block is filled
   pub turn-end : 0 < size → n ≤ start
       → record { number = 0; place = at; output = out } ≡ settled write (length words) place n (wanted size k n (drop place words))
   turn-end p h =
-      settled-got write words place n (wanted size k n (drop place words)) at out (t .within)
+      settled-got write (length words) place n out (wanted size k n (drop place words)) (drop at words) (place-of words at (t .within))
       (sym (t .reading) ∙ ap (λ (j : ℕ). onwards write size k (take start out) j (drop at words)) (none-left p h)
       ∙ onwards-end write holds size k (take start out) (drop at words)
       ∙ ap (λ (l : List A). got l (drop at words)) (take-all start out (omega (arith, t .kept))))

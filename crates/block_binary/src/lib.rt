@@ -6,36 +6,13 @@ mod unsigned;
 use distr::answer::Answer;
 use distr::secret_key_distr::BlockOccupancy;
 ghost use mathlib.Core.Path.{_≡_};
-ghost use mathlib.Core.Bool.{not, _||_};
-ghost use mathlib.Core.List.{[], _∷_, map};
-ghost use Prim.Native.Nat.{_%_, _≤_};
-ghost use lib.Dec.{eqb};
+ghost use mathlib.Core.List.{map};
+ghost use Prim.Native.Nat.{_≤_};
 ghost use lib.ListN.{length};
 ghost use lib.IntN.{natAbs};
 ghost use Rattle.distr.specs.Blocks.{categories, blockBinary};
-ghost use Rattle.distr.specs.Making.{refuse};
-ghost use Rattle.distr.specs.Numbers.{firstOf, pastEnd, tooLong};
+ghost use Rattle.distr.specs.Numbers.{badBlocks};
 ghost use Rattle.distr.specs.Draw.{outcome, ruleDraw};
-
-// What refuses a draw of n coefficients from `place` in `count` words: 22 past the end of the words, 6 too long, 8 no whole blocks.
-fn refusal(count: usize, place: usize, n: usize, block_size: usize) -> u32
-    ensures { λ r. ⌜ r ≡ firstOf (pastEnd count place ∷ tooLong n ∷ refuse (eqb n 0 || not (eqb (n % «block_size») 0)) 8 ∷ []) ⌝ }
-{
-    let early = words::early_number(count, place, n);
-    if early != 0 {
-        return early;
-    }
-    if n == 0 {
-        return 8;
-    }
-    if block_size == 0 {
-        return 8;
-    }
-    if n % block_size != 0 {
-        return 8;
-    }
-    0
-}
 
 // The number of choices for a block: its places, and with `AtMostOne` one more, which leaves it zero.
 fn category_count(block_size: usize, occupancy: BlockOccupancy) -> u64
@@ -58,10 +35,11 @@ pub fn sample_block_binary_values_to_i64(
     place: usize,
 ) -> Answer
     ensures { λ r. ⌜ (let n = length (now (output .entry)) in outcome r (now (output .exit)) ≡ ruleDraw (λ cs. cs)
-        (refuse (eqb n 0 || not (eqb (n % «block_size») 0)) 8) (blockBinary «block_size» occupancy n)
+        (badBlocks «block_size» n) (blockBinary «block_size» occupancy n)
         (now (words .entry)) place (now (output .entry))) ⌝ }
 {
-    let number = refusal(words.len(), place, output.len(), block_size);
+    let own = numbers::block_number(block_size, output.len());
+    let number = numbers::draw_number(words.len(), place, output.len(), own);
     if number != 0 {
         return Answer { number, place };
     }
@@ -78,10 +56,11 @@ pub fn sample_block_binary_values_to_u64(
     place: usize,
 ) -> Answer
     ensures { λ r. ⌜ (let n = length (now (output .entry)) in outcome r (now (output .exit)) ≡ ruleDraw (map natAbs)
-        (refuse (eqb n 0 || not (eqb (n % «block_size») 0)) 8) (blockBinary «block_size» occupancy n)
+        (badBlocks «block_size» n) (blockBinary «block_size» occupancy n)
         (now (words .entry)) place (now (output .entry))) ⌝ }
 {
-    let number = refusal(words.len(), place, output.len(), block_size);
+    let own = numbers::block_number(block_size, output.len());
+    let number = numbers::draw_number(words.len(), place, output.len(), own);
     if number != 0 {
         return Answer { number, place };
     }

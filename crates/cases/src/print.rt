@@ -1,4 +1,5 @@
 // Lines on standard output.
+use gaussian_core::encode::magnitude;
 use libc::STDOUT_FILENO;
 
 // The label and two numbers.
@@ -28,7 +29,7 @@ fn signed(value: i64) {
     } else {
         io::write_all(STDOUT_FILENO, b" ");
     }
-    io::print_decimal(STDOUT_FILENO, sheet::magnitude(value));
+    io::print_decimal(STDOUT_FILENO, magnitude(value));
 }
 
 // A whole line of a signed draw.

@@ -1,4 +1,3 @@
+-- Laws of the search of a cumulative table, and of the draws by it.
 pub mod Climbing
-pub mod Judging
-pub mod Settling
-pub mod Answering
+pub mod Drawing

@@ -1,4 +1,2 @@
--- What a draw by a cumulative table goes by: its number, its words and its guide.
-pub mod Numbered
-pub mod Taking
+-- What a draw by a cumulative table goes by: its guide.
 pub mod Guided

@@ -1,18 +1,20 @@
 // What an output type adds: the loops that store.
 use crate::index;
 use gaussian_core::encode;
+ghost use mathlib.Core.Path.{_≡_};
 ghost use Prim.Native.Nat.{_+_, _*_, _≤_};
 ghost use lib.Dec.{T};
-ghost use lib.ListN.{length};
+ghost use lib.ListN.{length, drop};
 ghost use Rattle.distr.specs.Gaussian.{cumulativeTable, cumulativeValue};
 ghost use Rattle.distr.specs.Encoding.{encodeWith};
-ghost use Rattle.cdt.specs.Taking.{Takes};
+ghost use Rattle.distr.specs.Words.{got};
+ghost use Rattle.wide_words.specs.Answering.{wideRead};
 
 // Each element by a 64-bit word. The caller has counted the words.
 pub(crate) fn fill_i64(output: &mut [i64], top: usize, bounds: &[u64], words: &[u32], place: usize)
     requires { ⌜ T (cumulativeTable top (now bounds)) × (place + 2 * length (now output) ≤ length (now words)) ⌝ }
-    ensures { λ _. ⌜ Takes (cumulativeValue top (now (bounds .entry)))
-        (now (words .entry)) place (length (now (output .entry))) (now (output .exit)) ⌝ }
+    ensures { λ _. ⌜ wideRead (cumulativeValue top (now (bounds .entry))) (length (now (output .entry))) (drop place (now (words .entry))) ≡
+        got (now (output .exit)) (drop (place + 2 * length (now (output .entry))) (now (words .entry))) ⌝ }
 {
     let n = output.len();
     let guide = index::make_guide(bounds, top);
@@ -36,8 +38,8 @@ pub(crate) fn fill_u64(
     place: usize,
 )
     requires { ⌜ T (cumulativeTable top (now bounds)) × (place + 2 * length (now output) ≤ length (now words)) ⌝ }
-    ensures { λ _. ⌜ Takes (λ w. encodeWith «minus_one» (cumulativeValue top (now (bounds .entry)) w))
-        (now (words .entry)) place (length (now (output .entry))) (now (output .exit)) ⌝ }
+    ensures { λ _. ⌜ wideRead (λ w. encodeWith «minus_one» (cumulativeValue top (now (bounds .entry)) w)) (length (now (output .entry))) (drop place (now (words .entry))) ≡
+        got (now (output .exit)) (drop (place + 2 * length (now (output .entry))) (now (words .entry))) ⌝ }
 {
     let n = output.len();
     let guide = index::make_guide(bounds, top);

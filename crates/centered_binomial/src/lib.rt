@@ -65,7 +65,7 @@ impl CenteredBinomial {
         if !is_made(self) {
             return Answer { number: 21, place };
         }
-        let answer = wide_words::answer_of(true, words.len(), place, output.len());
+        let answer = wide_words::answer_of(0, true, words.len(), place, output.len());
         if answer.number == 0 {
             fill_i64(self.eta, self.mask, output, words, place);
             return answer;
@@ -90,7 +90,7 @@ impl CenteredBinomial {
         if !is_made(self) {
             return Answer { number: 21, place };
         }
-        let answer = wide_words::answer_of(true, words.len(), place, output.len());
+        let answer = wide_words::answer_of(0, true, words.len(), place, output.len());
         if answer.number == 0 {
             fill_u64(self.eta, self.mask, output, minus_one, words, place);
             return answer;

@@ -26,7 +26,7 @@ pub fn sample_binary_values_with_probability_to_i64(
         return Answer { number, place };
     }
     let threshold = made.threshold;
-    ternary::binary::fill_binary_i64(result, threshold, words, place)
+    binary::fill_binary_i64(result, threshold, words, place)
 }
 
 // The same for unsigned output.
@@ -46,5 +46,5 @@ pub fn sample_binary_values_with_probability_to_u64(
         return Answer { number, place };
     }
     let threshold = made.threshold;
-    ternary::binary::fill_binary_u64(result, threshold, words, place)
+    binary::fill_binary_u64(result, threshold, words, place)
 }

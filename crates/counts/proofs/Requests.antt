@@ -1,6 +1,6 @@
 -- Every accepted request is counted: exactly the formula's number of draw lists give a coefficient list inside the distribution, none gives
 -- another, every draw list is carried by some words, and whatever is read is a draw list.
-use mathlib.Core.Path.{_≡_, refl}
+use mathlib.Core.Path.{_≡_}
 use mathlib.Core.Bool.{Bool, true, false, not, cond, _&&_, _||_}
 use mathlib.Core.List.{List, [], _∷_}
 use Prim.Native.Nat.{ℕ, zero, suc, _+_, _-_, _%_, _^_, _≤_, _<_}
@@ -20,6 +20,7 @@ use Rattle.distr.specs.Layered.{layerTables}
 use Rattle.distr.specs.Distribution.{Distr, secret, error, Tables, onDeviation, isLayered, secretRule, errorRule, rule}
 use Rattle.distr.specs.Making.{refuse, badProbability, badProbabilities, badBlock, secretNumber, errorNumber, makingNumber}
 use Rattle.distr.specs.Numbers.{firstOf, tooLong, badWeight, lengthNumber, gaussianTable, tableNumber, signedNumbers}
+use Rattle.distr.proofs.Drawing.{first-passed}
 use Rattle.counts.specs.Inside.{insideSecret, inside}
 use Rattle.counts.specs.Formula.{compositionFormula, secretFormula, formula}
 use Rattle.counts.specs.Demand3.{Exactly, inBox, accepted, Counted}
@@ -36,12 +37,6 @@ use Rattle.counts.proofs.CenteredBinomial.{centered-binomial-counted}
 passed : (b : Bool) (k : ℕ) → refuse b (suc k) ≡ 0 → T (not b)
 passed true k e = omega arith
 passed false k e = tt
-
--- no number refuses: the first does not, and none after it
-first-passed : (k : ℕ) (ns : List ℕ) → firstOf (k ∷ ns) ≡ 0 → (k ≡ 0) × (firstOf ns ≡ 0)
-unfolding firstOf
-first-passed zero ns e = (refl, e)
-first-passed (suc k) ns e = omega arith
 
 neither : (a b : Bool) → T (not (a || b)) → T (not a) × T (not b)
 neither true b t = absurd t

@@ -1,15 +1,18 @@
 -- Laws of a draw's answer: refused by its first number, or settled by the rules.
-use mathlib.Core.Path.{_≡_, refl, ap, _∙_}
-use mathlib.Core.List.{List, [], _∷_}
+use mathlib.Core.Path.{_≡_, refl, sym, ap, _∙_}
+use mathlib.Core.Bool.{Bool, true, false}
+use mathlib.Core.List.{List, [], _∷_, _++_}
 use Prim.Native.Nat.{ℕ, zero, suc, _-_, _<_, _≤_}
 use native.Mathlib.Nat.{not-suc-le-zero}
 use native.Mathlib.Omega.{arith}
 use borrow.Author.Tests.{lt-ltb, le-ltb, ne-eqb}
 use lib.ListN.{length, drop, replicate}
 use lib.IntN.{ℤ, pos}
-use Rattle.distr.specs.Words.{Read, got, short}
+use Rattle.distr.specs.Words.{Read, got, short, mapRead}
 use Rattle.distr.specs.Rule.{Rule, readBy}
+use Rattle.distr.specs.Making.{refuse}
 use Rattle.distr.specs.Numbers.{firstOf}
+use Rattle.distr.proofs.Reading.{short-not-got}
 use Rattle.distr.specs.Draw.{Outcome, settled, judged, readDraw, ruleDraw}
 
 -- the first number decides: 0 is passed over, another stands
@@ -22,6 +25,24 @@ unfolding firstOf
 first-some zero ns h = absurd (not-suc-le-zero h)
 first-some (suc k) ns h = refl
 
+-- the first of a list and of what follows it
+pub first-joined : (xs ys : List ℕ) → firstOf (firstOf xs ∷ ys) ≡ firstOf (xs ++ ys)
+unfolding firstOf
+first-joined [] ys = refl
+first-joined (zero ∷ xs) ys = first-joined xs ys
+first-joined (suc k ∷ xs) ys = refl
+
+-- no number refuses: the first does not, and none after it
+pub first-passed : (k : ℕ) (ns : List ℕ) → firstOf (k ∷ ns) ≡ 0 → (k ≡ 0) × (firstOf ns ≡ 0)
+unfolding firstOf
+first-passed zero ns e = (refl, e)
+first-passed (suc k) ns e = absurd (omega arith)
+
+-- a test that did not refuse
+pub not-refused : (b : Bool) (k : ℕ) → refuse b (suc k) ≡ 0 → b ≡ false
+not-refused true k e = absurd (omega arith)
+not-refused false k e = refl
+
 -- what is judged by 0 is drawn, and what another number judges is left as it was
 judged-zero : {A : Type 0} (k place : ℕ) (out : List A) (given : Outcome A) → k ≡ 0 → judged k place out given ≡ given
 unfolding judged
@@ -31,6 +52,24 @@ judged-some : {A : Type 0} (k place : ℕ) (out : List A) (given : Outcome A) �
     → judged k place out given ≡ record { number = k; place = place; output = out }
 unfolding judged
 judged-some k place out given h = rw (ne-eqb k 0 (λ e. omega arith))
+
+-- what a reading wrote is settled: drawn up to the place after it, or short of words
+module _ {A : Type 0} (write : List ℤ → List A) (count place n : ℕ) (out : List A) where
+  pub settled-got : (r : Read (List ℤ)) (rest : List ℕ) {at : ℕ} → count - length rest ≡ at → mapRead write r ≡ got out rest
+      → record { number = 0; place = at; output = out } ≡ settled write count place n r
+  unfolding settled mapRead
+  settled-got (got cs left) rest p e =
+      let same : got (write cs) left ≡ got out rest = e in
+      let outs : write cs ≡ out = cc in
+      let rests : left ≡ rest = cc in
+      rw (← p, ← outs, ← rests)
+  settled-got short rest p e = absurd (short-not-got e)
+
+  pub settled-short : (r : Read (List ℤ)) → mapRead write r ≡ short → out ≡ write (replicate n (pos 0))
+      → record { number = 23; place = place; output = out } ≡ settled write count place n r
+  unfolding settled mapRead
+  settled-short (got cs left) e z = absurd (short-not-got (sym e))
+  settled-short short e z = rw z
 
 module _ {A : Type 0} (write : List ℤ → List A) (number : ℕ) (rules : List ℕ → Read (List ℤ)) (words : List ℕ) (place : ℕ) (out : List A) where
   -- 22

@@ -1,6 +1,6 @@
 -- Laws of reading from words: how many words are taken, and where the reading stops.
 use mathlib.Core.Path.{_≡_, refl, ap, ap₂, _∙_}
-use mathlib.Core.Bool.{Bool, true, false, cond, _&&_}
+use mathlib.Core.Bool.{Bool, true, false, cond, _&&_, _||_, true≢false}
 use mathlib.Core.List.{List, [], _∷_, _++_}
 use Prim.Native.Nat.{ℕ, zero, suc, _+_, _*_, _/_, _%_, _^_, _<_, _≤_, suc-le-suc}
 use native.Mathlib.Nat.{not-suc-le-zero, le-of-suc-le-suc, mod-lt}
@@ -17,6 +17,10 @@ unfolding mapRead
 map-cond f true a rest = refl
 map-cond f false a rest = refl
 
+-- a word that is missing is none that was read
+pub short-not-got : {A : Type 0} {a : A} {rest : List ℕ} → short ≡ got a rest → ⊥
+short-not-got e = let z : _≡_ {A = ℕ} 0 1 = cc in absurd (omega arith)
+
 -- both of two tests
 pub and-left : (a b : Bool) → T (a && b) → T a
 and-left true b t = tt
@@ -25,6 +29,11 @@ and-left false b t = t
 pub and-right : (a b : Bool) → T (a && b) → T b
 and-right true b t = t
 and-right false b t = absurd t
+
+-- neither of two tests
+pub or-false : (a b : Bool) → (a || b) ≡ false → (a ≡ false) × (b ≡ false)
+or-false true b e = absurd (true≢false e)
+or-false false b e = (refl, e)
 
 pub and-both : (a b : Bool) → T a → T b → T (a && b)
 and-both true b t u = u
@@ -110,7 +119,7 @@ positive (suc k) w h = omega arith
 
 pub chose : (k : ℕ) (ws : List ℕ) (s : ℕ) (rest : List ℕ) → choose k ws ≡ got s rest → Chose k ws s rest
 unfolding choose
-chose k [] s rest e = let none : short ≡ got s rest = e in let z : _≡_ {A = ℕ} 0 1 = cc in absurd (omega arith)
+chose k [] s rest e = absurd (short-not-got e)
 chose k (w ∷ ws) s rest e = go (ltb w (k * (2 ^ 32 / k))) refl e (chose k ws s rest)
   where
     go : (b : Bool) → ltb w (k * (2 ^ 32 / k)) ≡ b → cond b (got (w % k) ws) (choose k ws) ≡ got s rest

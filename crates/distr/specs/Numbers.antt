@@ -24,7 +24,11 @@ tooLong n = refuse (ltb 65536 n) 6
 abbrev pub badWeight : ℕ → ℕ → ℕ
 badWeight weight n = refuse (ltb n weight || ltb (2 ^ 64 - 1) weight) 7
 
--- "7 or 8"; "8 block length 0 or no multiple of the block size".
+-- "8 block length 0 or no multiple of the block size."
+abbrev pub badBlocks : ℕ → ℕ → ℕ
+badBlocks size n = refuse (eqb n 0 || not (eqb (n % size) 0)) 8
+
+-- "7 or 8", by the distribution.
 unfoldable pub lengthNumber : Distr → ℕ → ℕ
 lengthNumber (secret UniformBinary) n = 0
 lengthNumber (secret (Binary p)) n = 0
@@ -32,7 +36,7 @@ lengthNumber (secret SparseTernary) n = 0
 lengthNumber (secret UniformTernary) n = 0
 lengthNumber (secret (Ternary minus plus)) n = 0
 lengthNumber (secret (FixedHammingWeightBinary h)) n = badWeight h n
-lengthNumber (secret (BlockBinary size occupancy)) n = refuse (eqb n 0 || not (eqb (n % size) 0)) 8
+lengthNumber (secret (BlockBinary size occupancy)) n = badBlocks size n
 lengthNumber (secret (FixedHammingWeightTernary h)) n = badWeight h n
 lengthNumber (secret (FixedCompositionTernary minus ones)) n = badWeight (minus + ones) n
 lengthNumber (secret (Gaussian deviation)) n = 0

@@ -1,11 +1,10 @@
 -- Each family's answer is the answer of an encoded draw of a sampler of its distribution, if the modulus is above the largest magnitude;
 -- and the refusals before that. (An encoded centered binomial is a CRT draw.)
 use mathlib.Core.Path.{_≡_, refl, sym, _∙_}
-use mathlib.Core.Bool.{Bool, true, false, not, _||_}
+use mathlib.Core.Bool.{Bool, true, false}
 use mathlib.Core.List.{List, [], _∷_, map}
-use Prim.Native.Nat.{ℕ, _+_, _-_, _%_, _<_, _≤_}
+use Prim.Native.Nat.{ℕ, _+_, _-_, _<_, _≤_}
 use borrow.Author.Tests.{lt-ltb, le-ltb, le-leb, lt-leb}
-use lib.Dec.{eqb}
 use lib.ListN.{length, drop, replicate}
 use lib.IntN.{ℤ, pos, natAbs}
 use lib.Ieee.{Float}
@@ -23,8 +22,8 @@ use Rattle.distr.specs.Gaussian.{support}
 use Rattle.distr.specs.Rule.{Rule, readBy}
 use Rattle.distr.specs.Distribution.{Distr, secret, error, Tables, onDeviation, secretRule, rule, gaussianRead, coefficients}
 use Rattle.distr.specs.Encoding.{encode, encodeWith}
-use Rattle.distr.specs.Making.{refuse, largest}
-use Rattle.distr.specs.Numbers.{firstOf, badWeight, lengthNumber, modulusNumber, gaussianTable, tableNumber}
+use Rattle.distr.specs.Making.{largest}
+use Rattle.distr.specs.Numbers.{firstOf, badWeight, badBlocks, lengthNumber, modulusNumber, gaussianTable, tableNumber}
 use Rattle.distr.specs.Draw.{judged, readDraw, ruleDraw, residueDraw, encodedDraw}
 use Rattle.distr.proofs.Drawing.{first-some}
 use Rattle.draw_laws.proofs.Every.{every-replicate}
@@ -167,7 +166,7 @@ module _ (tables : Tables) (q : ℕ) (words : List ℕ) (place : ℕ) (out : Lis
       (binary-weight-nonneg h (length out)) above refl
 
   pub encoded-blocks : (size : ℕ) (occupancy : BlockOccupancy) → largest (secret (BlockBinary size occupancy)) < q
-      → ruleDraw (map natAbs) (refuse (eqb (length out) 0 || not (eqb (length out % size) 0)) 8) (blockBinary size occupancy (length out)) words place out
+      → ruleDraw (map natAbs) (badBlocks size (length out)) (blockBinary size occupancy (length out)) words place out
       ≡ encodedDraw true (secret (BlockBinary size occupancy)) tables q words place out
   unfolding ruleDraw lengthNumber tableNumber onDeviation coefficients rule secretRule
   encoded-blocks size occupancy above =

@@ -1,9 +1,8 @@
 -- Each family's answer is the answer of a signed draw of a sampler of its distribution; a sampler that making never gives is refused.
 use mathlib.Core.Path.{_≡_, refl}
-use mathlib.Core.Bool.{true, false, not, _||_}
+use mathlib.Core.Bool.{true, false}
 use mathlib.Core.List.{List, [], _∷_, map}
-use Prim.Native.Nat.{ℕ, _+_, _%_}
-use lib.Dec.{eqb}
+use Prim.Native.Nat.{ℕ, _+_}
 use lib.ListN.{length, replicate}
 use lib.IntN.{ℤ, pos, negsuc}
 use lib.Ieee.{Float}
@@ -19,8 +18,7 @@ use Rattle.distr.specs.CenteredBinomial.{centeredBinomial}
 use Rattle.distr.specs.Gaussian.{support}
 use Rattle.distr.specs.Distribution.{Distr, secret, error, Tables, onDeviation, secretRule, errorRule, rule, gaussianRead, coefficients}
 use Rattle.distr.specs.Encoding.{signedWith}
-use Rattle.distr.specs.Making.{refuse}
-use Rattle.distr.specs.Numbers.{firstOf, badWeight, lengthNumber, gaussianTable, tableNumber}
+use Rattle.distr.specs.Numbers.{firstOf, badWeight, badBlocks, lengthNumber, gaussianTable, tableNumber}
 use Rattle.distr.specs.Draw.{judged, readDraw, ruleDraw, signedDraw}
 use Rattle.draw_laws.proofs.Writes.{signed-with}
 use Rattle.draw_laws.proofs.Joining.{first-before, joined}
@@ -88,7 +86,7 @@ module _ (tables : Tables) (words : List ℕ) (place : ℕ) (out : List ℤ) whe
   signed-binary-weight h = by-length (secret (FixedHammingWeightBinary h)) (λ cs. cs) (λ cs. refl) refl
 
   pub signed-blocks : (size : ℕ) (occupancy : BlockOccupancy)
-      → ruleDraw (λ cs. cs) (refuse (eqb (length out) 0 || not (eqb (length out % size) 0)) 8) (blockBinary size occupancy (length out)) words place out
+      → ruleDraw (λ cs. cs) (badBlocks size (length out)) (blockBinary size occupancy (length out)) words place out
       ≡ signedDraw true (secret (BlockBinary size occupancy)) tables words place out
   unfolding ruleDraw lengthNumber tableNumber onDeviation coefficients rule secretRule
   signed-blocks size occupancy = by-length (secret (BlockBinary size occupancy)) (λ cs. cs) (λ cs. refl) refl

@@ -1,13 +1,14 @@
 -- A CRT draw: refused by its first number or by a table, or the rows made from the last one, which is drawn by the method.
 use mathlib.Core.Path.{_≡_, refl, sym, ap, _∙_, subst}
 use mathlib.Core.Bool.{Bool, true, false, not, cond, _||_, true≢false}
-use mathlib.Core.List.{List, _++_, map, append-nil}
-use Prim.Native.Nat.{ℕ, zero, suc, _*_, _-_, _^_, _<_, _≤_}
+use mathlib.Core.List.{List, [], _∷_, _++_, map, append-nil}
+use Prim.Native.Nat.{ℕ, zero, suc, _*_, _-_, _^_, _<_, _≤_, zero-le}
 use native.Mathlib.Nat.{le-refl, mul-zero, mul-suc}
 use native.Mathlib.Omega.{arith}
 use borrow.Rule.Slice.PartMut.{midOf, putMid, same-len-mid, mid-len, put-same, post-is}
+use borrow.Author.Tests.{eq-eqb}
 use lib.Dec.{T, leb, eqb}
-use lib.ListN.{length, take, drop}
+use lib.ListN.{length, take, drop, drop-of-length-le}
 use lib.Seq.{drop-at, drop-length, length-take-le}
 use lib.IntN.{ℤ}
 use Rattle.distr.specs.declared.answer.Answer.{Answer}
@@ -22,16 +23,18 @@ use Rattle.distr.specs.Making.{refuse, errorNumber, largest}
 use Rattle.distr.specs.Numbers.{firstOf, stateNumbers, servesCrt, tableNumber}
 use Rattle.distr.specs.Draw.{Outcome, outcome, settled, readDraw, crtDraw}
 use Rattle.distr.proofs.Drawing.{read-settled, read-own}
-use Rattle.crt.specs.Rows.{lastRow, finished}
+use Rattle.crt.specs.Rows.{nativeRows, lastRow, spread, finished}
 use Rattle.crt.proofs.Finishing.{finished-settled}
 use Rattle.draw_laws.proofs.Crt.{layoutNumbers, Layout, layout-passed, crt-unmade, crt-past-end, crt-layout, crt-table, crt-empty, crt-settled}
+use Rattle.error_method.specs.declared.SamplingMethod.{SamplingMethod}
+use Rattle.error_method.specs.Method.{prepared, magnitudeOf}
+use Rattle.error_method.specs.Drawing.{methodDraw}
+use Rattle.error_method.proofs.Methods.{method-draw, method-within, method-empty, largest-small}
 use Rattle.error_sampler.specs.declared.ErrorSampler.{ErrorSampler}
-use Rattle.error_sampler.specs.declared.SamplingMethod.{SamplingMethod}
-use Rattle.error_sampler.specs.Sampler.{prepared, magnitudeOf, isMade}
-use Rattle.error_sampler.specs.Drawing.{methodDraw, crtNumber}
-use Rattle.error_sampler.proofs.Made.{fitting, made-method, made-magnitude}
+use Rattle.error_sampler.specs.Sampler.{isMade}
+use Rattle.error_sampler.specs.Numbers.{crtNumber}
+use Rattle.error_sampler.proofs.Made.{fitting, made-accepted, made-method, made-magnitude}
 use Rattle.error_sampler.proofs.States.{is-so, no-elements, zero-or-more, state-first, state-next, state-passed, state-refused}
-use Rattle.error_sampler.proofs.Methods.{made-accepted, method-draw, method-within, method-empty, largest-small}
 
 serves : (d : ErrorDistribution) → servesCrt (error d) ≡ true
 unfolding servesCrt
@@ -60,26 +63,41 @@ unfolding settled
 settled-number write words place n (got cs rest) = refl
 settled-number write words place n short = refl
 
--- The last row, and the output with another in its place.
+-- The last row, which starts at `last`, and the output with another in its place.
 abbrev lastPart : List ℕ → ℕ → List ℕ
-lastPart out count = midOf (length out - count) (length out - (length out - count)) out
+lastPart out last = midOf last (length out - last) out
 
 abbrev withLast : List ℕ → ℕ → List ℕ → List ℕ
-withLast out count ys = putMid (length out - count) (length out - (length out - count)) out ys
+withLast out last ys = putMid last (length out - last) out ys
 
-part-length : (out : List ℕ) (count : ℕ) → count ≤ length out → length (lastPart out count) ≡ count
-part-length out count h = mid-len (length out - count) (length out) out (le-refl (length out)) ∙ omega arith
+part-length : (out : List ℕ) (last : ℕ) → length (lastPart out last) ≡ length out - last
+part-length out last = mid-len last (length out) out (le-refl (length out))
 
-with-length : (out : List ℕ) (count : ℕ) (ys : List ℕ) → length ys ≡ length (lastPart out count) → length (withLast out count ys) ≡ length out
-with-length out count ys e = same-len-mid (length out - count) (length out - (length out - count)) out ys e
+with-length : (out : List ℕ) (last : ℕ) (ys : List ℕ) → length ys ≡ length (lastPart out last) → length (withLast out last ys) ≡ length out
+with-length out last ys e = same-len-mid last (length out - last) out ys e
 
-with-last : (out : List ℕ) (count : ℕ) (ys : List ℕ) → length ys ≡ length (lastPart out count) → lastRow (withLast out count ys) count ≡ ys
-with-last out count ys e =
-    let start = length out - count in
-    rw (with-length out count ys e)
-    (drop-at (take start out) (ys ++ drop (length out - start) (drop start out)) start (length-take-le start out (omega arith))
-    ∙ ap (λ (l : List ℕ). ys ++ l) (post-is start (length out) out (omega arith) ∙ drop-length out)
+with-last : (out : List ℕ) (count last : ℕ) (ys : List ℕ) → last ≡ length out - count → length ys ≡ length (lastPart out last)
+    → lastRow (withLast out last ys) count ≡ ys
+with-last out count last ys l e =
+    rw (with-length out last ys e, ← l)
+    (drop-at (take last out) (ys ++ drop (length out - last) (drop last out)) last (length-take-le last out (omega arith))
+    ∙ ap (λ (k : List ℕ). ys ++ k) (post-is last (length out) out (omega arith) ∙ drop-length out)
     ∙ append-nil ys)
+
+-- rows made from an empty output are none
+no-rows : (moduli : List ℕ) → nativeRows moduli [] ≡ []
+unfolding nativeRows
+no-rows [] = refl
+no-rows (q ∷ moduli) = no-rows moduli
+
+spread-empty : (out : List ℕ) (count : ℕ) (moduli : List ℕ) → length out ≡ 0 → spread out count moduli ≡ []
+unfolding spread
+spread-empty [] count moduli e = go (eqb 0 (count * length moduli))
+  where
+    go : (b : Bool) → cond b (nativeRows moduli (lastRow [] count)) [] ≡ []
+    go true = ap (nativeRows moduli) (drop-of-length-le [] {i = 0 - count} zero-le) ∙ no-rows moduli
+    go false = refl
+spread-empty (a ∷ out) count moduli e = absurd (omega arith)
 
 -- a row is no longer than an output that has an element
 row-fits : (n count rows : ℕ) → n ≡ count * rows → 0 < n → count ≤ n
@@ -106,33 +124,28 @@ pub record Ready (d : ErrorDistribution) (made : Bool) (method : SamplingMethod)
   here : place ≤ length words
   good : firstOf (layoutNumbers (largest (error d)) n count moduli) ≡ 0
 
--- the rows have the output's shape, and one fits in it
-pub crt-row-fits : {d : ErrorDistribution} {made : Bool} {method : SamplingMethod} {count : ℕ} {moduli words : List ℕ} {place n : ℕ}
-    → Ready d made method count moduli words place n → 0 < n → count ≤ n
-crt-row-fits {d} {count = count} {moduli} {n = n} r h =
-    row-fits n count (length moduli) (layout-passed (largest (error d)) n count moduli (r .good) .shape) h
-
-module _ (s : ErrorSampler) (floats : T (fitting s)) (tables : Tables) (count : ℕ) (moduli words : List ℕ) (place : ℕ) (out : List ℕ) where
-  -- 21, 22, 11, 6, 10 or 9
-  pub crt-refused : 0 < crtNumber s (length words) place (length out) count moduli
-      → crtDraw (isMade s) (error (s .distribution)) tables count moduli words place out
-      ≡ record { number = crtNumber s (length words) place (length out) count moduli; place = place; output = out }
-  unfolding crtNumber
-  crt-refused =
-      state-refused (length words) place (layoutNumbers (magnitudeOf (s .method)) (length out) count moduli) out
-      (λ made. crtDraw made (error (s .distribution)) tables count moduli words place out)
-      (crt-unmade (error (s .distribution)) tables count moduli words place out false refl)
-      (crt-past-end (error (s .distribution)) tables count moduli words place out (serves (s .distribution))) (isMade s)
-      (λ made here. rw (made-magnitude s floats (is-so _ made))
-      (crt-layout (error (s .distribution)) tables count moduli words place out (serves (s .distribution)) here))
+-- a draw by its number k: 21, 22, 11, 6, 10 or 9
+pub crt-refused : (s : ErrorSampler) → T (fitting s) → (tables : Tables) (count : ℕ) (moduli words : List ℕ) (place : ℕ) (out : List ℕ)
+    {k : ℕ} → k ≡ crtNumber s (length words) place (length out) count moduli → (k ≡ 0 → ⊥)
+    → record { number = k; place = place; output = out } ≡ crtDraw (isMade s) (error (s .distribution)) tables count moduli words place out
+unfolding crtNumber
+crt-refused s floats tables count moduli words place out e h =
+    let some : 0 < crtNumber s (length words) place (length out) count moduli = omega arith in
+    rw e
+    (sym (state-refused (length words) place (layoutNumbers (magnitudeOf (s .method)) (length out) count moduli) out
+    (λ made. crtDraw made (error (s .distribution)) tables count moduli words place out)
+    (crt-unmade (error (s .distribution)) tables count moduli words place out false refl)
+    (crt-past-end (error (s .distribution)) tables count moduli words place out (serves (s .distribution))) (isMade s)
+    (λ made here. rw (made-magnitude s floats (is-so _ made))
+    (crt-layout (error (s .distribution)) tables count moduli words place out (serves (s .distribution)) here)) some))
 
 -- none of them
 pub crt-ready : (s : ErrorSampler) → T (fitting s) → (count : ℕ) (moduli words : List ℕ) (place n : ℕ)
-    → crtNumber s (length words) place n count moduli ≡ 0
+    {k : ℕ} → k ≡ crtNumber s (length words) place n count moduli → k ≡ 0
     → Ready (s .distribution) (isMade s) (s .method) count moduli words place n
 unfolding crtNumber
-crt-ready s floats count moduli words place n z =
-    let passed = state-passed (length words) place (layoutNumbers (magnitudeOf (s .method)) n count moduli) (isMade s) z in
+crt-ready s floats count moduli words place n e z =
+    let passed = state-passed (length words) place (layoutNumbers (magnitudeOf (s .method)) n count moduli) (isMade s) (sym e ∙ z) in
     let made : T (isMade s) = is-so _ (passed .is-made) in
     record {
       is-made = passed .is-made;
@@ -153,69 +166,75 @@ module _ {d : ErrorDistribution} {made : Bool} {method : SamplingMethod} (tables
       → crtDraw made (error d) tables count moduli words place out ≡ record { number = tableNumber (error d) tables; place = place; output = out }
   refused-table t = rw (r .is-made) (crt-table (error d) tables count moduli words place out (serves d) (r .here) (r .good) t)
 
-  -- an empty output is drawn as it stands
-  pub crt-empty-drawn : length out ≡ 0 → methodDraw wrapped method tables words place out ≡ crtDraw made (error d) tables count moduli words place out
-  crt-empty-drawn none =
-      rw (r .same)
-      (zero-or-more (tableNumber (error d) tables)
-      (λ t. method-empty wrapped d (r .accepted) tables words place out none (no-elements out none) (r .here) t
-      ∙ sym (rw (r .is-made) (crt-empty (error d) tables count moduli words place out (serves d) (r .here) (r .good) t none)))
-      (λ t. method-draw wrapped tables words place out d (r .accepted)
-      ∙ read-own wrapped (tableNumber (error d) tables) (coefficients (error d) (length out) tables) words place out (r .here) (omega arith) t
-      ∙ sym (refused-table t)))
+  module _ (last : ℕ) (from : last ≡ length out - count) (answer : Answer) (ys : List ℕ) (size : length ys ≡ length (lastPart out last))
+      (drawn : outcome answer ys ≡ methodDraw wrapped method tables words place (lastPart out last)) where
+    layout : Layout (largest (error d)) (length out) count moduli
+    layout = layout-passed (largest (error d)) (length out) count moduli (r .good)
 
-  module _ (some : 0 < length out) (answer : Answer) (ys : List ℕ) (size : length ys ≡ length (lastPart out count))
-      (drawn : outcome answer ys ≡ methodDraw wrapped method tables words place (lastPart out count)) where
     by-rule : outcome answer ys
-        ≡ readDraw wrapped (tableNumber (error d) tables) (coefficients (error d) (length (lastPart out count)) tables) words place (lastPart out count)
-    by-rule = drawn ∙ rw (r .same) (method-draw wrapped tables words place (lastPart out count) d (r .accepted))
+        ≡ readDraw wrapped (tableNumber (error d) tables) (coefficients (error d) (length (lastPart out last)) tables) words place (lastPart out last)
+    by-rule = drawn ∙ rw (r .same) (method-draw wrapped tables words place (lastPart out last) d (r .accepted))
 
-    few : length (lastPart out count) ≤ 65536
-    few =
-        omega (
-          arith,
-          part-length out count (crt-row-fits r some),
-          crt-row-fits r some,
-          layout-passed (largest (error d)) (length out) count moduli (r .good) .few,
-        )
+    few : length (lastPart out last) ≤ 65536
+    few = omega (arith, part-length out last, layout .few)
 
     when-table : 0 < tableNumber (error d) tables
-        → outcome answer ys ≡ record { number = tableNumber (error d) tables; place = place; output = lastPart out count }
+        → outcome answer ys ≡ record { number = tableNumber (error d) tables; place = place; output = lastPart out last }
     when-table t =
         by-rule
-        ∙ read-own wrapped (tableNumber (error d) tables) (coefficients (error d) (length (lastPart out count)) tables) words place (lastPart out count)
+        ∙ read-own wrapped (tableNumber (error d) tables) (coefficients (error d) (length (lastPart out last)) tables) words place (lastPart out last)
         (r .here) few t
 
-    when-settled : tableNumber (error d) tables ≡ 0
-        → outcome answer ys ≡ settled wrapped (length words) place count (coefficients (error d) count tables (drop place words))
-    when-settled t =
-        subst (λ (n : ℕ). outcome answer ys ≡ settled wrapped (length words) place n (coefficients (error d) n tables (drop place words)))
-        (part-length out count (crt-row-fits r some))
+    when-settled : tableNumber (error d) tables ≡ 0 → (n : ℕ) → length (lastPart out last) ≡ n
+        → outcome answer ys ≡ settled wrapped (length words) place n (coefficients (error d) n tables (drop place words))
+    when-settled t n e =
+        subst (λ (n : ℕ). outcome answer ys ≡ settled wrapped (length words) place n (coefficients (error d) n tables (drop place words))) e
         (by-rule
-        ∙ read-settled wrapped (tableNumber (error d) tables) (coefficients (error d) (length (lastPart out count)) tables) words place (lastPart out count)
+        ∙ read-settled wrapped (tableNumber (error d) tables) (coefficients (error d) (length (lastPart out last)) tables) words place (lastPart out last)
         (r .here) few t)
 
     -- 12 or 13 leaves the last row as it was, and so the output
     pub crt-table-kept : ofTable (answer .number) ≡ true
-        → outcome answer (withLast out count ys) ≡ crtDraw made (error d) tables count moduli words place out
+        → outcome answer (withLast out last ys) ≡ crtDraw made (error d) tables count moduli words place out
     crt-table-kept h =
         zero-or-more (tableNumber (error d) tables)
-        (λ t. absurd (true≢false (sym h ∙ ap (λ (o : Outcome ℕ). ofTable (o .number)) (when-settled t) ∙ settled-number wrapped _ _ _ _)))
-        (λ t. ap (λ (o : Outcome ℕ). record { number = o .number; place = o .place; output = withLast out count (o .output) }) (when-table t)
-        ∙ ap (λ (l : List ℕ). record { number = tableNumber (error d) tables; place = place; output = l })
-        (put-same (length out - count) (length out - (length out - count)) out)
+        (λ t. absurd (true≢false (sym h ∙ ap (λ (o : Outcome ℕ). ofTable (o .number)) (when-settled t _ refl) ∙ settled-number wrapped _ _ _ _)))
+        (λ t. ap (λ (o : Outcome ℕ). record { number = o .number; place = o .place; output = withLast out last (o .output) }) (when-table t)
+        ∙ ap (λ (l : List ℕ). record { number = tableNumber (error d) tables; place = place; output = l }) (put-same last (length out - last) out)
         ∙ sym (refused-table t))
 
-    -- else the rows are made from it, or 23
-    pub crt-finished : ofTable (answer .number) ≡ false
-        → finished (withLast out count ys) count moduli answer ≡ crtDraw made (error d) tables count moduli words place out
-    crt-finished h =
+    -- else an empty output stays
+    empty-finished : tableNumber (error d) tables ≡ 0 → length out ≡ 0
+        → finished (withLast out last ys) count moduli answer ≡ record { number = 0; place = place; output = out }
+    empty-finished t none =
+        let empty : length (lastPart out last) ≡ 0 = omega (arith, part-length out last) in
+        let told : outcome answer ys ≡ record { number = 0; place = place; output = lastPart out last } =
+        drawn
+        ∙ rw (r .same)
+        (method-empty wrapped d (r .accepted) tables words place (lastPart out last) empty (no-elements (lastPart out last) empty) (r .here) t) in
+        let number : answer .number ≡ 0 = ap (λ (o : Outcome ℕ). o .number) told in
+        let same : answer .place ≡ place = ap (λ (o : Outcome ℕ). o .place) told in
+        let nothing : spread (withLast out last ys) count moduli ≡ [] = spread-empty (withLast out last ys) count moduli (with-length out last ys size ∙ none) in
+        rw (eq-eqb (answer .number) 0 number, number, same, nothing, no-elements out none)
+
+    -- and in another the rows are made from the last one, or 23
+    rows-finished : tableNumber (error d) tables ≡ 0 → 0 < length out
+        → finished (withLast out last ys) count moduli answer
+        ≡ settled (rows moduli) (length words) place count (coefficients (error d) count tables (drop place words))
+    rows-finished t some =
+        finished-settled (withLast out last ys) count moduli answer (largest (error d)) (length words) place
+        (coefficients (error d) count tables (drop place words)) (with-length out last ys size ∙ layout .shape) (omega (arith, largest-small d (r .accepted)))
+        (layout .above) (method-within d tables t count (drop place words))
+        (rw (with-last out count last ys from size)
+        (when-settled t count (omega (arith, part-length out last, row-fits (length out) count (length moduli) (layout .shape) some))))
+
+    pub crt-finished : ofTable (answer .number) ≡ false → {o : Outcome ℕ} → o ≡ finished (withLast out last ys) count moduli answer
+        → o ≡ crtDraw made (error d) tables count moduli words place out
+    crt-finished h e =
         zero-or-more (tableNumber (error d) tables)
-        (λ t. finished-settled (withLast out count ys) count moduli answer (largest (error d)) (length words) place
-        (coefficients (error d) count tables (drop place words)) (with-length out count ys size ∙ layout .shape) (omega (arith, largest-small d (r .accepted)))
-        (layout .above) (method-within d tables t count (drop place words)) (rw (with-last out count ys size) (when-settled t))
-        ∙ sym (rw (r .is-made) (crt-settled (error d) tables count moduli words place out (serves d) (r .here) (r .good) t some)))
+        (λ t. zero-or-more (length out)
+        (λ none. e ∙ empty-finished t none
+        ∙ sym (rw (r .is-made) (crt-empty (error d) tables count moduli words place out (serves d) (r .here) (r .good) t none)))
+        (λ some. e ∙ rows-finished t some
+        ∙ sym (rw (r .is-made) (crt-settled (error d) tables count moduli words place out (serves d) (r .here) (r .good) t some))))
         (λ t. absurd (true≢false (sym (table-number d tables t) ∙ sym (ap (λ (o : Outcome ℕ). ofTable (o .number)) (when-table t)) ∙ h)))
-      where
-        layout : Layout (largest (error d)) (length out) count moduli
-        layout = layout-passed (largest (error d)) (length out) count moduli (r .good)

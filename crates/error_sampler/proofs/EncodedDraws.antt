@@ -17,20 +17,22 @@ use Rattle.distr.specs.Distribution.{error, Tables, onDeviation, errorRule, rul
 use Rattle.distr.specs.Encoding.{encode, encodeWith}
 use Rattle.distr.specs.Making.{refuse, errorNumber, largest}
 use Rattle.distr.specs.Numbers.{firstOf, stateNumbers, lengthNumber, modulusNumber, shapeNumber, moduliNumbers, servesCrt, tableNumber}
-use Rattle.distr.specs.Draw.{encodedDraw}
+use Rattle.distr.specs.Draw.{Outcome, encodedDraw}
 use Rattle.distr.proofs.Drawing.{read-settled}
 use Rattle.crt.proofs.Shape.{shape-good}
 use Rattle.draw_laws.proofs.Joining.{first-before, first-within, refused, settled-same}
 use Rattle.draw_laws.proofs.Writes.{encode-with}
 use Rattle.draw_laws.proofs.Encoded.{of-gaussian, encoded-unmade, encoded-past-end, encoded-error-gaussian}
 use Rattle.draw_laws.proofs.Crt.{crt-unmade, crt-past-end, layoutNumbers, crt-layout, crt-empty, encoded-binomial-crt, encoded-binomial-settled}
+use Rattle.error_method.specs.declared.SamplingMethod.{SamplingMethod}
+use Rattle.error_method.specs.Method.{prepared, magnitudeOf, isBinomial}
+use Rattle.error_method.specs.Drawing.{methodDraw}
+use Rattle.error_method.proofs.Methods.{method-draw, method-empty}
 use Rattle.error_sampler.specs.declared.ErrorSampler.{ErrorSampler}
-use Rattle.error_sampler.specs.declared.SamplingMethod.{SamplingMethod}
-use Rattle.error_sampler.specs.Sampler.{prepared, magnitudeOf, isMade}
-use Rattle.error_sampler.specs.Drawing.{methodDraw, isBinomial, residueNumbers, encodedNumber}
-use Rattle.error_sampler.proofs.Made.{fitting, made-method}
+use Rattle.error_sampler.specs.Sampler.{isMade}
+use Rattle.error_sampler.specs.Numbers.{residueNumbers, encodedNumber}
+use Rattle.error_sampler.proofs.Made.{fitting, made-accepted, made-method}
 use Rattle.error_sampler.proofs.States.{is-so, no-elements, zero-or-more, state-first, state-next, state-passed, state-refused}
-use Rattle.error_sampler.proofs.Methods.{made-accepted, method-draw, method-empty}
 
 -- the numbers as the code tries them: the state's k, then 6, 10 and 9
 module _ (s : ErrorSampler) (words place n q k : ℕ) (e : k ≡ firstOf (stateNumbers (isMade s) words place)) where
@@ -69,10 +71,10 @@ residue-passed m n q = go (ltb 65536 n) (isBinomial m && eqb q 0) (leb q (magnit
     go false false false e f z = (ltb-false 65536 n e, leb-false q (magnitudeOf m) f)
 
 -- so the modulus is above 0
-pub encoded-above : (s : ErrorSampler) (words place n q : ℕ) → encodedNumber s words place n q ≡ 0 → 0 < q
+pub encoded-above : (s : ErrorSampler) (words place n q : ℕ) {k : ℕ} → k ≡ encodedNumber s words place n q → k ≡ 0 → 0 < q
 unfolding encodedNumber
-encoded-above s words place n q z =
-    let passed = state-passed words place (residueNumbers (s .method) n q) (isMade s) z in
+encoded-above s words place n q e z =
+    let passed = state-passed words place (residueNumbers (s .method) n q) (isMade s) (sym e ∙ z) in
     omega (arith, residue-passed (s .method) n q (passed .later) .1)
 
 module _ (tables : Tables) (q : ℕ) (words : List ℕ) (place : ℕ) (out : List ℕ) where
@@ -146,23 +148,25 @@ module _ (tables : Tables) (q : ℕ) (words : List ℕ) (place : ℕ) (out : Lis
         encoded-error-gaussian tables q words place out deviation (residue-passed (prepared (Distr.Gaussian deviation)) (length out) q z .1)
     drawn (Distr.CenteredBinomial eta) e z = zero-or-more (length out) (empty-row eta e z) (full-row eta e z)
 
-  module _ (s : ErrorSampler) (floats : T (fitting s)) (fits : length out < 2 ^ 64) where
-    pub encoded-refused : 0 < encodedNumber s (length words) place (length out) q
-        → encodedDraw (isMade s) (error (s .distribution)) tables q words place out
-        ≡ record { number = encodedNumber s (length words) place (length out) q; place = place; output = out }
+  -- the draw by its number k
+  module _ (s : ErrorSampler) (floats : T (fitting s)) (fits : length out < 2 ^ 64) {k : ℕ} (e : k ≡ encodedNumber s (length words) place (length out) q) where
+    pub encoded-refused : (k ≡ 0 → ⊥)
+        → record { number = k; place = place; output = out } ≡ encodedDraw (isMade s) (error (s .distribution)) tables q words place out
     unfolding encodedNumber
-    encoded-refused =
-        state-refused (length words) place (residueNumbers (s .method) (length out) q) out
+    encoded-refused h =
+        let some : 0 < encodedNumber s (length words) place (length out) q = omega arith in
+        rw e
+        (sym (state-refused (length words) place (residueNumbers (s .method) (length out) q) out
         (λ made. encodedDraw made (error (s .distribution)) tables q words place out)
         (unmade (s .distribution)) (past-end (s .distribution)) (isMade s)
-        (λ made here. rw (made-method s floats (is-so _ made)) (early here fits (s .distribution)))
+        (λ made here. rw (made-method s floats (is-so _ made)) (early here fits (s .distribution))) some))
 
-    pub encoded-drawn : encodedNumber s (length words) place (length out) q ≡ 0
-        → methodDraw (map (encodeWith (q - 1))) (s .method) tables words place out
-        ≡ encodedDraw (isMade s) (error (s .distribution)) tables q words place out
+    pub encoded-drawn : k ≡ 0 → {o : Outcome ℕ} → o ≡ methodDraw (map (encodeWith (q - 1))) (s .method) tables words place out
+        → o ≡ encodedDraw (isMade s) (error (s .distribution)) tables q words place out
     unfolding encodedNumber
-    encoded-drawn z =
-        let passed = state-passed (length words) place (residueNumbers (s .method) (length out) q) (isMade s) z in
+    encoded-drawn z d =
+        let passed = state-passed (length words) place (residueNumbers (s .method) (length out) q) (isMade s) (sym e ∙ z) in
         let same = made-method s floats (is-so _ (passed .is-made)) in
-        rw (passed .is-made, same)
+        d
+        ∙ rw (passed .is-made, same)
         (drawn (passed .here) fits (s .distribution) (made-accepted s (is-so _ (passed .is-made))) (rw same at (passed .later)))

@@ -3,7 +3,7 @@ pub mod States
 pub mod Preparing
 pub mod Made
 pub mod Held
-pub mod Methods
+pub mod SignedDraws
 pub mod EncodedDraws
 pub mod CrtDraws
 pub mod Secrets

@@ -1,3 +1,3 @@
--- What an error sampler is made of, which samplers making gives, and the steps of its draws.
+-- Making an error sampler, which samplers making gives, and the numbers of its draws.
 pub mod Sampler
-pub mod Drawing
+pub mod Numbers

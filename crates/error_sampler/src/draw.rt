@@ -1,20 +1,19 @@
 // The draws of an error sampler: signed coefficients, residues of one modulus, and a row of residues for each of several.
 use crate::ErrorSampler;
-use crate::SamplingMethod;
 use crate::is_made;
 use distr::answer::Answer;
-use signed_discrete_gaussian::sample_gaussian_to_i64;
-use signed_discrete_gaussian::sample_gaussian_to_u64;
+use error_method::draw::sample_residues;
+use error_method::draw::sample_signed;
+use error_method::is_binomial;
 ghost use mathlib.Core.Path.{_≡_};
-ghost use mathlib.Core.List.{map};
+ghost use Prim.Native.Nat.{_-_};
 ghost use Rattle.distr.specs.Distribution.{error};
-ghost use Rattle.distr.specs.Encoding.{encodeWith};
 ghost use Rattle.distr.specs.Numbers.{firstOf, stateNumbers};
 ghost use Rattle.counts.specs.Demand3.{Meets};
 ghost use Rattle.distr.specs.Draw.{outcome, encodedDraw, crtDraw};
 ghost use Rattle.signed_discrete_gaussian.specs.Lent.{lent};
 ghost use Rattle.error_sampler.specs.Sampler.{isMade};
-ghost use Rattle.error_sampler.specs.Drawing.{methodDraw, isBinomial, encodedNumber, crtNumber};
+ghost use Rattle.error_sampler.specs.Numbers.{encodedNumber, crtNumber};
 
 // 21 for a sampler that making never gives, 22 for a place past the end of the words, else 0.
 fn state_number(sampler: ErrorSampler, words: usize, place: usize) -> u32
@@ -27,17 +26,6 @@ fn state_number(sampler: ErrorSampler, words: usize, place: usize) -> u32
         return 22;
     }
     0
-}
-
-// Whether the method is the centered binomial's.
-fn is_binomial(method: SamplingMethod) -> bool
-    ensures { λ r. ⌜ r ≡ isBinomial method ⌝ }
-{
-    match method {
-        SamplingMethod::Gaussian(_) => false,
-        SamplingMethod::CenteredBinomial(_) => true,
-        SamplingMethod::Empty => false,
-    }
 }
 
 // The number of an encoded draw of n coefficients: 21, 22, 6, then 10 for a centered binomial's modulus of 0, then 9.
@@ -76,40 +64,11 @@ fn crt_draw_number(
     crt::crt_number(n, count, moduli, sampler.maximum_magnitude())
 }
 
-// Draws residues by the method's family, with the caller's encoding of -1.
-fn sample_residues(
-    method: SamplingMethod,
-    output: &mut [u64],
-    minus_one: u64,
-    words: &[u32],
-    place: usize,
-    bounds: &[u64],
-    endpoints: &[u64],
-    heights: &[f64],
-    curve: &[f64],
-) -> Answer
-    ensures { λ r. ⌜ outcome r (now (output .exit)) ≡
-        methodDraw (map (encodeWith «minus_one»)) method
-        (lent (now (bounds .entry)) (now (endpoints .entry)) (now (heights .entry)) (now (curve .entry)))
-        (now (words .entry)) place (now (output .entry)) ⌝ }
+// Where the last row of an output of n elements starts: at 0 where the output is empty, whatever a row's length.
+fn last_row(n: usize, count: usize) -> usize
+    ensures { λ r. ⌜ r ≡ n - count ⌝ }
 {
-    match method {
-        SamplingMethod::Gaussian(parameters) => sample_gaussian_to_u64(
-            output,
-            minus_one,
-            parameters,
-            bounds,
-            endpoints,
-            heights,
-            curve,
-            words,
-            place,
-        ),
-        SamplingMethod::CenteredBinomial(sampler) => {
-            sampler.sample_to_u64(output, minus_one, words, place)
-        }
-        SamplingMethod::Empty => Answer { number: 21, place },
-    }
+    if n < count { 0 } else { n - count }
 }
 
 impl ErrorSampler {
@@ -132,22 +91,16 @@ impl ErrorSampler {
             return Answer { number: 21, place };
         }
         let method = self.method;
-        match method {
-            SamplingMethod::Gaussian(parameters) => sample_gaussian_to_i64(
-                output,
-                parameters,
-                bounds,
-                endpoints,
-                heights,
-                curve,
-                words,
-                place,
-            ),
-            SamplingMethod::CenteredBinomial(sampler) => {
-                sampler.sample_to_i64(output, words, place)
-            }
-            SamplingMethod::Empty => Answer { number: 21, place },
-        }
+        sample_signed(
+            method,
+            output,
+            words,
+            place,
+            bounds,
+            endpoints,
+            heights,
+            curve,
+        )
     }
 
     // Draws residues of one modulus, which must be above the largest magnitude. A centered binomial's is a CRT draw of one
@@ -189,7 +142,7 @@ impl ErrorSampler {
 
     // Draws each coefficient once and writes its residue for every modulus, one row after the other. The coefficients are
     // drawn into the last row as residues of 2^64, and the rows are made from it. A refused table leaves the output as it was.
-    // An empty output is drawn too, which reads nothing: its tables are judged.
+    // An empty output is drawn the same way, which reads nothing: its tables are judged.
     pub fn sample_crt_to(
         self,
         output: &mut [u64],
@@ -213,21 +166,8 @@ impl ErrorSampler {
             return Answer { number, place };
         }
         let method = self.method;
+        let last = last_row(n, count);
         let minus_one = 0xffff_ffff_ffff_ffff;
-        if n == 0 {
-            return sample_residues(
-                method,
-                output,
-                minus_one,
-                words,
-                place,
-                bounds,
-                endpoints,
-                heights,
-                curve,
-            );
-        }
-        let last = n - count;
         let answer = sample_residues(
             method,
             &mut output[last..],

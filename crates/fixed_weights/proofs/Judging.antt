@@ -1,55 +1,64 @@
 -- A draw with weights: its numbers decide, and where they pass it is what its rule's reading settles.
 use mathlib.Core.Path.{_≡_, refl}
-use mathlib.Core.Bool.{Bool, true, false}
-use mathlib.Core.List.{List, [], _∷_}
+use mathlib.Core.List.{List}
 use Prim.Native.Nat.{ℕ, _-_, _^_, _<_, _≤_}
 use native.Mathlib.Omega.{arith}
 use lib.Dec.{ltb}
-use borrow.Author.Tests.{ltb-false, lt-ltb, le-ltb, ne-eqb}
+use borrow.Author.Tests.{ltb-false, le-ltb}
 use lib.ListN.{length, drop}
 use lib.IntN.{ℤ}
 use Rattle.distr.specs.Rule.{Rule, readBy}
-use Rattle.distr.specs.Numbers.{firstOf, pastEnd, tooLong, badWeight}
-use Rattle.distr.specs.Draw.{settled, judged, ruleDraw}
+use Rattle.distr.specs.Numbers.{badWeight}
+use Rattle.distr.specs.Draw.{settled, ruleDraw}
+use Rattle.distr.proofs.Reading.{or-false}
+use Rattle.distr.proofs.Drawing.{not-refused}
+use Rattle.numbers.proofs.Refusing.{number-passed, rule-refused, rule-passed}
+use Rattle.fixed_weights.specs.declared.plans.Plan.{Plan}
+use Rattle.fixed_weights.specs.declared.plans.Planning.{Planning}
+use Rattle.fixed_weights.specs.declared.plans.Planning.the-variants.{By, Refused}
+use Rattle.fixed_weights.specs.Plans.{Planned, Plans, weightNumber}
 
--- 7, and no number
-pub too-heavy : (weight n : ℕ) → n < weight → badWeight weight n ≡ 7
-too-heavy weight n h = rw (lt-ltb n weight h)
-
+-- a weight that fits is not refused, and one that is not refused fits
 pub not-heavy : (weight n : ℕ) → weight ≤ n → n < 2 ^ 64 → badWeight weight n ≡ 0
 not-heavy weight n h l = rw (le-ltb n weight h, le-ltb (2 ^ 64 - 1) weight (omega arith))
 
--- the numbers tried before a draw with weights looks at its words
-abbrev pub weightNumber : ℕ → ℕ → ℕ → ℕ → ℕ
-weightNumber count place n weight = firstOf (pastEnd count place ∷ tooLong n ∷ badWeight weight n ∷ [])
+light : (weight n : ℕ) → badWeight weight n ≡ 0 → weight ≤ n
+light weight n e = ltb-false n weight (or-false (ltb n weight) _ (not-refused _ 6 e) .0)
 
--- what is known where they pass
+-- what is known where the numbers let a draw pass
 pub record Passed (count place n weight : ℕ) : Type 0 where
   pub there : place ≤ count
   pub short-enough : n ≤ 65536
   pub light : weight ≤ n
 
 pub passed : {count place n weight k : ℕ} → k ≡ weightNumber count place n weight → k ≡ 0 → Passed count place n weight
-unfolding firstOf
-passed {count} {place} {n} {weight} {k} e z = by-tests (ltb count place) (ltb 65536 n) (ltb n weight) refl refl refl
-  where
-    by-tests : (a b c : Bool) → ltb count place ≡ a → ltb 65536 n ≡ b → ltb n weight ≡ c → Passed count place n weight
-    by-tests true b c p q r = let no : k ≡ 22 = rw p at e in absurd (omega arith)
-    by-tests false true c p q r = let no : k ≡ 6 = rw (p, q) at e in absurd (omega arith)
-    by-tests false false true p q r = let no : k ≡ 7 = rw (p, q, r) at e in absurd (omega arith)
-    by-tests false false false p q r = record {
-      there = ltb-false count place p;
-      short-enough = ltb-false 65536 n q;
-      light = ltb-false n weight r;
-    }
+passed {count} {place} {n} {weight} e z =
+    let good = number-passed count place n (badWeight weight n) e z in
+    record { there = good .0; short-enough = good .1; light = light weight n (good .2) }
+
+-- what is known where a plan is handed back
+pub record Begun (rule : Rule) (count place n weight : ℕ) (p : Plan) : Type 0 where
+  pub none : weightNumber count place n weight ≡ 0
+  pub there : place ≤ count
+  pub of-rule : Planned rule n p
+
+pub by-plan : (rule : Rule) (count place n weight : ℕ) (r : Planning) {p : Plan} → Plans rule n (weightNumber count place n weight) r → r ≡ By p
+    → Begun rule count place n weight p
+by-plan rule count place n weight r d e =
+    let made = rw e at d in
+    record { none = made .0; there = passed {n = n} {weight = weight} refl (made .0) .there; of-rule = made .1 }
 
 module _ {A : Type 0} (write : List ℤ → List A) (rule : Rule) (words : List ℕ) (place weight : ℕ) (out : List A) {k : ℕ}
     (number : k ≡ weightNumber (length words) place (length out) weight) where
   pub refused : (k ≡ 0 → ⊥) → record { number = k; place = place; output = out } ≡ ruleDraw write (badWeight weight (length out)) rule words place out
-  unfolding ruleDraw judged
-  refused ne = rw (← number, ne-eqb k 0 ne)
+  refused = rule-refused write (badWeight weight (length out)) words place out number rule
 
   pub accepted : k ≡ 0 → settled write (length words) place (length out) (readBy rule (drop place words))
       ≡ ruleDraw write (badWeight weight (length out)) rule words place out
-  unfolding ruleDraw judged
-  accepted z = rw (← number, z)
+  accepted = rule-passed write (badWeight weight (length out)) words place out number rule
+
+-- a number is handed back in a plan's stead
+pub by-number : {A : Type 0} (write : List ℤ → List A) (rule : Rule) (words : List ℕ) (place weight : ℕ) (out : List A) (r : Planning) {k : ℕ}
+    → Plans rule (length out) (weightNumber (length words) place (length out) weight) r → r ≡ Refused k
+    → record { number = k; place = place; output = out } ≡ ruleDraw write (badWeight weight (length out)) rule words place out
+by-number write rule words place weight out r d e = let told = rw e at d in refused write rule words place weight out (told .0) (told .1)

@@ -1,4 +1,4 @@
--- Laws that the proofs of this crate share, over the element type of the output.
+-- Laws that the proofs of the draws with weights share, over the element type of the output.
 pub mod Inserting
 pub mod Turns
 pub mod Judging

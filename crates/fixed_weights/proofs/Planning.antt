@@ -14,10 +14,11 @@ use Rattle.distr.specs.Insertion.{countUp, insertEach}
 use Rattle.distr.specs.Numbers.{badWeight}
 use Rattle.distr.specs.Draw.{Outcome, settled, ruleDraw}
 use Rattle.distr.proofs.Writing.{map-append, map-replicate, map-id}
-use Rattle.fixed_weights.specs.declared.insertion.Plan.{Plan}
-use Rattle.packed.specs.Table.{entries}
-use Rattle.fixed_weights.specs.Inserting.{insertAll, placed, codeValue, planned, codes, planRule, Ready, Planned, inserting}
-use Rattle.fixed_weights.proofs.Judging.{weightNumber, accepted}
+use Rattle.fixed_weights.specs.declared.plans.Plan.{Plan}
+use Rattle.fixed_weights.specs.Table.{entries}
+use Rattle.fixed_weights.specs.Plans.{codeValue, planned, codes, planRule, Ready, Planned, weightNumber}
+use Rattle.fixed_weights.specs.Inserting.{insertAll, placed, inserting}
+use Rattle.fixed_weights.proofs.Judging.{accepted}
 use Rattle.fixed_weights.proofs.Inserting.{rule-inserts, map-insert}
 
 -- how an output holds coefficients: `write` holds each by `val`, and a table holds −1, 1 and 0

@@ -13,10 +13,12 @@ use Rattle.distr.specs.Packed.{digits, signValue, signsAlone}
 use Rattle.distr.specs.Insertion.{countUp, inserted, signs, chooseSigned, insertSigned, signedInsertion, fixedTernaryWeight}
 use Rattle.distr.specs.Numbers.{badWeight}
 use Rattle.distr.specs.Draw.{Outcome, ruleDraw}
+use Rattle.distr.proofs.Reading.{short-not-got}
 use Rattle.distr.proofs.Writing.{map-replicate}
+use Rattle.fixed_weights.specs.Plans.{weightNumber}
 use Rattle.fixed_weights.specs.Inserting.{Signed, signedChoice, insertedAt, insertSigns, placed, insertingSigns}
 use Rattle.fixed_weights.proofs.Inserting.{map-bind, bind-same, bind-bind, map-read-twice, bind-map, length-inserted, map-inserted}
-use Rattle.fixed_weights.proofs.Judging.{weightNumber, not-heavy, accepted}
+use Rattle.fixed_weights.proofs.Judging.{not-heavy, accepted}
 use Rattle.fixed_weights.proofs.Planning.{Holds, settled-placed}
 
 -- the rule's signed insertion is this one
@@ -50,11 +52,11 @@ digit-bits (suc count) w (suc i) = digit-bits count (w / 2) i
 map-got : {A B : Type 0} (f : A → B) (r : Read A) (b : B) (rest : List ℕ) → mapRead f r ≡ got b rest → (a : A) × (b ≡ f a)
 unfolding mapRead
 map-got f (got a left) b rest e = let same : got (f a) left ≡ got b rest = e in (a, cc)
-map-got f short b rest e = let no : short ≡ got b rest = e in let z : _≡_ {A = ℕ} 0 1 = cc in absurd (omega arith)
+map-got f short b rest e = absurd (short-not-got e)
 
 bits-drawn : (k : ℕ) (bits ws : List ℕ) (c : Signed) (rest : List ℕ) → Bits bits → signedChoice k bits ws ≡ got c rest → (c .bit < 2) × Bits (c .bits)
 unfolding signedChoice signs bindRead mapRead word digits
-bits-drawn k [] [] c rest h e = let no : short ≡ got c rest = e in let z : _≡_ {A = ℕ} 0 1 = cc in absurd (omega arith)
+bits-drawn k [] [] c rest h e = absurd (short-not-got e)
 bits-drawn k [] (w ∷ ws) c rest h e =
     let g = map-got _ (choose k ws) c rest e in
     rw (g .1) (digit-bits 32 w 0, λ i. digit-bits 32 w (suc i))

@@ -11,8 +11,8 @@ use Rattle.distr.specs.Insertion.{signs}
 use Rattle.words.specs.declared.Taken.the-variants.{Got as Given, Short as Lacking}
 use Rattle.words.specs.Reading.{taken}
 use Rattle.words.proofs.Taking.{took-word, took-choice, chosen-below, taken-short}
-use Rattle.fixed_weights.specs.declared.insertion.Signing.{Signing}
-use Rattle.fixed_weights.specs.declared.insertion.Signing.the-variants.{Got, Short}
+use Rattle.fixed_weights.specs.declared.choices.Signing.{Signing}
+use Rattle.fixed_weights.specs.declared.choices.Signing.the-variants.{Got, Short}
 use Rattle.fixed_weights.specs.Inserting.{signedChoice, Drew, Draws}
 
 -- with a sign at hand the choice decides

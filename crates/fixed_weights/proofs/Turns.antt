@@ -15,9 +15,10 @@ use Rattle.words.specs.declared.Taken.the-variants.{Got, Short}
 use Rattle.words.specs.Reading.{taken}
 use Rattle.words.proofs.Places.{place-of}
 use Rattle.words.proofs.Taking.{took-choice, chosen-below, taken-short}
-use Rattle.packed.specs.Table.{entries}
-use Rattle.fixed_weights.specs.declared.insertion.Plan.{Plan}
-use Rattle.fixed_weights.specs.Inserting.{insertedAt, insertAll, placed, planned, inserting}
+use Rattle.fixed_weights.specs.Table.{entries}
+use Rattle.fixed_weights.specs.declared.plans.Plan.{Plan}
+use Rattle.fixed_weights.specs.Plans.{planned}
+use Rattle.fixed_weights.specs.Inserting.{insertedAt, insertAll, placed, inserting}
 use Rattle.fixed_weights.proofs.Inserting.{stored-insertion, insert-next, insert-short}
 
 module _ {A : Type 0} (words : List ℕ) (n : ℕ) (goal : Read (List A)) where

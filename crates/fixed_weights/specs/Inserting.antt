@@ -1,18 +1,17 @@
--- Insertion over any kind of value, with the choices read on the way, and the plan of an insertion, whatever the output's type.
-use Prim.Native.Nat.{ℕ, zero, suc, _+_, _-_, _≤_, _<_}
+-- Insertion over any kind of value, with the choices read on the way.
+use Prim.Native.Nat.{ℕ, zero, suc, _-_, _≤_, _<_}
 use mathlib.Core.Path.{_≡_}
 use mathlib.Core.List.{List, [], _∷_, _++_}
 use lib.ListN.{length, getD, set, replicate, drop}
-use lib.IntN.{ℤ, pos}
 use Rattle.distr.specs.Words.{Read, got, short, mapRead, bindRead, choose}
-use Rattle.distr.specs.Rule.{Rule}
-use Rattle.distr.specs.Packed.{digits, minusOne}
-use Rattle.distr.specs.Insertion.{insertion, signs}
+use Rattle.distr.specs.Packed.{digits}
+use Rattle.distr.specs.Insertion.{signs}
 use Rattle.distr.specs.Draw.{Outcome}
-use Rattle.fixed_weights.specs.declared.insertion.Plan.{Plan}
-use Rattle.fixed_weights.specs.declared.insertion.Signing.{Signing}
-use Rattle.fixed_weights.specs.declared.insertion.Signing.the-variants.{Got, Short}
-use Rattle.packed.specs.Table.{entries}
+use Rattle.fixed_weights.specs.declared.plans.Plan.{Plan}
+use Rattle.fixed_weights.specs.declared.choices.Signing.{Signing}
+use Rattle.fixed_weights.specs.declared.choices.Signing.the-variants.{Got, Short}
+use Rattle.fixed_weights.specs.Table.{entries}
+use Rattle.fixed_weights.specs.Plans.{planned, codes}
 
 -- Place s is copied to the new place at the end, and the value is put at s.
 unfoldable pub insertedAt : {A : Type 0} → A → List A → ℕ → List A
@@ -46,34 +45,6 @@ unfoldable pub placed : {A : Type 0} → A → ℕ → ℕ → ℕ → Read (Lis
 placed z count place n (got xs rest) = record { number = 0; place = count - length rest; output = xs }
 placed z count place n short = record { number = 23; place = place; output = replicate n z }
 
--- A value's place in a table of −1, 1 and 0.
-abbrev pub codeValue : ℕ → ℤ
-codeValue zero = minusOne
-codeValue (suc zero) = pos 1
-codeValue (suc (suc c)) = pos 0
-
--- What is inserted by a plan, and how much it is.
-abbrev pub planned : Plan → ℕ
-planned p = p .firsts + p .seconds
-
-abbrev pub codes : Plan → List ℕ
-codes p = replicate (p .firsts) (p .first) ++ replicate (p .seconds) (p .second)
-
--- A plan whose codes stand in a table of three, and whose insertions have room among n values.
-pub record Ready (p : Plan) (n : ℕ) : Type 0 where
-  pub fill-code : p .fill < 3
-  pub first-code : p .first < 3
-  pub second-code : p .second < 3
-  pub room : planned p ≤ n
-
--- A plan as a rule for n coefficients, and a plan that is the plan of a rule.
-abbrev pub planRule : Plan → ℕ → Rule
-planRule p n = insertion (codeValue (p .fill)) (replicate (p .firsts) (codeValue (p .first)) ++ replicate (p .seconds) (codeValue (p .second))) n
-
-pub record Planned (rule : Rule) (n : ℕ) (p : Plan) : Type 0 where
-  pub ready : Ready p n
-  pub same : planRule p n ≡ rule
-
 -- The reading of a plan into n values, which `table` holds by their codes.
 abbrev pub inserting : {A : Type 0} → List A → A → Plan → ℕ → List ℕ → Read (List A)
 inserting table z p n ws = insertAll (entries table z (codes p)) (replicate (n - planned p) (getD table (p .fill) z)) ws
@@ -82,7 +53,7 @@ inserting table z p n ws = insertAll (entries table z (codes p)) (replicate (n -
 abbrev pub insertingSigns : {A : Type 0} → List A → A → ℕ → ℕ → List ℕ → Read (List A)
 insertingSigns table z count n ws = insertSigns (λ b. getD table b z) count [] (replicate (n - count) (getD table 2 z)) ws
 
--- What a private function hands back for a signed choice among k at `place`, with `left` signs at hand, the lowest bits of `word`.
+-- What a function hands back for a signed choice among k at `place`, with `left` signs at hand, the lowest bits of `word`.
 pub record Drew (words : List ℕ) (place word left k : ℕ) (bit selected rest fewer after : ℕ) : Type 0 where
   pub reads : signedChoice k (digits 2 left word) (drop place words) ≡ got (record { bit = bit; chosen = selected; bits = digits 2 fewer rest }) (drop after words)
   pub is-bit : bit < 2

@@ -1,4 +1,4 @@
-// Fixed weights and fixed compositions: values inserted at chosen places.
-pub mod fixed_composition;
-pub mod fixed_weight;
-mod insertion;
+// What fixed weights and fixed compositions share, whatever the output's type: the plan of an insertion, and the choices of signs and places.
+// The draws stand in crates of their own, one for each output type.
+pub mod choices;
+pub mod plans;

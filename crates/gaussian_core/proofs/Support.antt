@@ -3,7 +3,7 @@ use Prim.Native.Nat.{ℕ, _+_, _*_, _/_, _^_, _≤_, _<_}
 use native.Mathlib.Nat.{le-refl, le-of-lt, mul-pos, mul-one, one-mul, lt-of-lt-of-le, le-div-iff-mul-le}
 use native.Mathlib.Omega.{arith}
 use mathlib.Core.Path.{_≡_, refl, sym, subst}
-use mathlib.Core.Bool.{Bool, true, false, not, _||_, true≢false}
+use mathlib.Core.Bool.{Bool, true, false, not, _||_}
 use lib.Dec.{T, ltb, ltb→lt, lt→ltb}
 use lib.Ieee.{Float, nan, inf, fin, binary64, up, down, round, mul, lt, le}
 use lib.Ieee.Fits.{up-pos, down-pos}
@@ -12,6 +12,7 @@ use lib.Ieee.Positive.{num, den, positive, above, above-of-le, between, cross→
 use borrow.Author.Tests.{ltb-true, ltb-false, not-false}
 use Rattle.distr.specs.Gaussian.{literal}
 use Rattle.distr.specs.Making.{badDeviation}
+use Rattle.distr.proofs.Reading.{or-false}
 use Rattle.probability.proofs.Truncating.{power}
 
 -- 0.7, 12.0 and the product of a deviation and 12.0.
@@ -95,10 +96,6 @@ module _ (d : Float) (d-positive : T (positive d)) (d-least : T (le smallest d))
           under (mul binary64 d d) square-positive
           (mul-mono binary64 d d tailCut d d-positive d-positive tail-positive d-positive (le-self d d-positive)
           (cross→le tailCut d tail-positive d-positive (ltb-false (num d * den tailCut) (num tailCut * den d) h)))
-
-pub or-false : (a b : Bool) → (a || b) ≡ false → (a ≡ false) × (b ≡ false)
-or-false true b h = absurd (true≢false h)
-or-false false b h = (refl, h)
 
 pub is-so : (b : Bool) → not b ≡ false → T b
 is-so b h = subst T (sym (not-false b h)) tt

@@ -1,5 +1,6 @@
-// A sampled magnitude with its sign, as a residue and as a signed integer.
+// A sampled magnitude with its sign, as a residue and as a signed integer; and the magnitude of a signed integer.
 ghost use mathlib.Core.Path.{_≡_};
+ghost use lib.IntN.{natAbs};
 ghost use Rattle.distr.specs.Encoding.{encodeWith};
 ghost use Rattle.distr.specs.Gaussian.{signed};
 ghost use Rattle.gaussian_core.specs.Made.{signedOrZero};
@@ -27,4 +28,14 @@ pub fn encode_signed(positive: bool, magnitude: u64) -> i64
     }
     let value = magnitude as i64;
     if positive { value } else { -value }
+}
+
+// The magnitude of a signed integer: of a negative x it is !x + 1, where no step overflows.
+pub fn magnitude(x: i64) -> u64
+    ensures { λ r. ⌜ r ≡ natAbs x ⌝ }
+{
+    if x < 0 {
+        return (!x) as u64 + 1;
+    }
+    x as u64
 }

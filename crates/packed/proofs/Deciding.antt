@@ -1,4 +1,4 @@
--- The whole answer of a draw by one rule: refused early, short of words, or drawn, over how the output holds coefficients.
+-- The whole answer of a draw by one rule: refused, short of words, or drawn, over how the output holds coefficients.
 use mathlib.Core.Path.{_≡_, refl, sym, ap, ap₂, _∙_}
 use mathlib.Core.List.{List, [], _∷_, _++_, map}
 use Prim.Native.Nat.{ℕ, zero, suc, _+_, _-_, _*_, _/_, _%_, _<_, _≤_}
@@ -16,7 +16,7 @@ use Rattle.distr.specs.Draw.{ruleDraw}
 use Rattle.distr.proofs.Reading.{many-word}
 use Rattle.distr.proofs.Writing.{map-append, map-map, map-replicate, map-take}
 use Rattle.distr.proofs.Drawing.{rule-got, rule-short}
-use Rattle.words.proofs.Refusing.{earlyNumber, early-passed, rule-refused}
+use Rattle.numbers.proofs.Refusing.{drawNumber, number-passed, rule-refused}
 use Rattle.packed.specs.Serving.{Serves}
 use Rattle.packed.proofs.Packing.{enough}
 
@@ -39,14 +39,14 @@ module _ {A : Type 0} (base : ℕ) (g h : ℕ → A) (positive : 0 < base) (same
   map-taken n count xs =
       map-take g n (split base count xs) ∙ ap (take n) (map-split count xs) ∙ sym (map-take h n (split base count xs))
 
--- A draw by one rule, where the early numbers let it pass.
+-- A draw by one rule, where no number refuses it.
 module _ {A : Type 0} (write : List ℤ → List A) (f : ℤ → A) (writes : (cs : List ℤ) → write cs ≡ map f cs)
-    (rule : Rule) (words : List ℕ) (place : ℕ) (out : List A) {k : ℕ} (early : k ≡ earlyNumber (length words) place (length out)) (good : k ≡ 0) where
+    (rule : Rule) (words : List ℕ) (place : ℕ) (out : List A) {k : ℕ} (number : k ≡ drawNumber (length words) place (length out) 0) (good : k ≡ 0) where
   -- 23: the place stays, and the output is zeros
   lacking : {out′ : List A} → readBy rule (drop place words) ≡ short → out′ ≡ replicate (length out) (f (pos 0))
       → record { number = 23; place = place; output = out′ } ≡ ruleDraw write 0 rule words place out
   lacking e o =
-      let passed = early-passed (length words) place (length out) early good in
+      let passed = number-passed (length words) place (length out) 0 number good in
       ap (λ (l : List A). record { number = 23; place = place; output = l }) (o ∙ sym (map-replicate f (length out) (pos 0)) ∙ sym (writes _))
       ∙ sym (rule-short write 0 rule words place out (passed .0) (passed .1) refl e)
 
@@ -54,16 +54,16 @@ module _ {A : Type 0} (write : List ℤ → List A) (f : ℤ → A) (writes : (c
   reached : (cs : List ℤ) (rest : List ℕ) {out′ : List A} {at : ℕ} → readBy rule (drop place words) ≡ got cs rest
       → at ≡ length words - length rest → out′ ≡ map f cs → record { number = 0; place = at; output = out′ } ≡ ruleDraw write 0 rule words place out
   reached cs rest e p o =
-      let passed = early-passed (length words) place (length out) early good in
+      let passed = number-passed (length words) place (length out) 0 number good in
       ap₂ (λ (j : ℕ) (l : List A). record { number = 0; place = j; output = l }) p (o ∙ sym (writes cs))
       ∙ sym (rule-got write 0 rule words place out (passed .0) (passed .1) refl cs rest e)
 
--- Draws packed into m words: the early numbers decide, and then the test of the words' number, whatever rule the entries hold the values of.
+-- Draws packed into m words: its number decides, and then the test of the words' number, whatever rule the entries hold the values of.
 module _ {A : Type 0} (z : A) (entry : ℕ → A) (base each m : ℕ) (words : List ℕ) (place : ℕ) (out : List A)
-    {k : ℕ} (early : k ≡ earlyNumber (length words) place (length out)) where
+    {k : ℕ} (number : k ≡ drawNumber (length words) place (length out) 0) where
   pub serves-refused : (k ≡ 0 → ⊥) → Serves z entry base each m words place out (record { number = k; place = place; output = out })
   serves-refused some = record {
-    serves = λ write f value writes zeros agree. rule-refused write 0 (packed base each m (length out) value) words place out early some;
+    serves = λ write f value writes zeros agree. rule-refused write 0 words place out number (packed base each m (length out) value) some;
   }
 
   pub serves-lacking : {out′ : List A} → k ≡ 0 → length words - place < m → out′ ≡ replicate (length out) z
@@ -71,7 +71,7 @@ module _ {A : Type 0} (z : A) (entry : ℕ → A) (base each m : ℕ) (words : L
   unfolding mapRead
   serves-lacking good l o = record {
     serves = λ write f value writes zeros agree.
-        lacking write f writes (packed base each m (length out) value) words place out early good
+        lacking write f writes (packed base each m (length out) value) words place out number good
         (rw (many-word m (drop place words), lt-leb m (length (drop place words)) (rw (length-drop place words) (omega arith))))
         (o ∙ ap (replicate (length out)) zeros);
   }
@@ -81,13 +81,13 @@ module _ {A : Type 0} (z : A) (entry : ℕ → A) (base each m : ℕ) (words : L
       → Serves z entry base each m words place out (record { number = 0; place = place + m; output = out′ })
   unfolding mapRead
   serves-reached good b l fits o =
-      let passed = early-passed (length words) place (length out) early good in
+      let passed = number-passed (length words) place (length out) 0 number good in
       let n : ℕ = length out in
       let ws : List ℕ = drop place words in
       let there : m ≤ length ws = rw (length-drop place words) (omega arith) in
       record {
         serves = λ write f value writes zeros agree.
-            reached write f writes (packed base each m n value) words place out early good
+            reached write f writes (packed base each m n value) words place out number good
             (map value (take n (split base each (take m ws)))) (drop m ws)
             (rw (many-word m ws, le-leb m (length ws) there))
             (rw (length-drop m ws, length-drop place words) (omega arith))
@@ -99,7 +99,7 @@ module _ {A : Type 0} (z : A) (entry : ℕ → A) (base each m : ℕ) (words : L
 
 -- Trits out of bytes: where the reading of bytes stopped decides.
 module _ {A : Type 0} (write : List ℤ → List A) (f : ℤ → A) (writes : (cs : List ℤ) → write cs ≡ map f cs)
-    (words : List ℕ) (place : ℕ) (out : List A) {k : ℕ} (early : k ≡ earlyNumber (length words) place (length out)) (good : k ≡ 0)
+    (words : List ℕ) (place : ℕ) (out : List A) {k : ℕ} (number : k ≡ drawNumber (length words) place (length out) 0) (good : k ≡ 0)
     (entry : ℕ → A) where
   -- the digits of the bytes read, looked up in the table
   abbrev tritsRead : Read (List ℕ) → Read (List A)
@@ -111,7 +111,7 @@ module _ {A : Type 0} (write : List ℤ → List A) (f : ℤ → A) (writes : (c
   pub trits-lacking : {out′ : List A} → short ≡ tritsRead bytesRead → out′ ≡ replicate (length out) (f (pos 0))
       → record { number = 23; place = place; output = out′ } ≡ ruleDraw write 0 (uniformTernary (length out)) words place out
   unfolding mapRead
-  trits-lacking e o = lacking write f writes (uniformTernary (length out)) words place out early good (go bytesRead e) o
+  trits-lacking e o = lacking write f writes (uniformTernary (length out)) words place out number good (go bytesRead e) o
     where
       go : (r : Read (List ℕ)) → short ≡ tritsRead r → mapRead (λ ds. map tritValue (take (length out) (split 3 5 ds))) r ≡ short
       go (got ds rest) p = let never : _≡_ {A = ℕ} 0 1 = cc in absurd (omega arith)
@@ -130,7 +130,7 @@ module _ {A : Type 0} (write : List ℤ → List A) (f : ℤ → A) (writes : (c
           let held : ℕ → A = λ d. f (tritValue d) in
           let stopped : rest ≡ drop at words = cc in
           let filled : out′ ≡ map entry (take n (split 3 5 ds)) = cc in
-          reached write f writes (uniformTernary n) words place out early good (map tritValue (take n (split 3 5 ds))) rest
+          reached write f writes (uniformTernary n) words place out number good (map tritValue (take n (split 3 5 ds))) rest
           (ap (mapRead (λ ds′. map tritValue (take n (split 3 5 ds′)))) b)
           (rw (stopped, length-drop at words) (omega arith))
           (filled ∙ map-taken 3 entry held (omega arith) agree n 5 ds ∙ sym (map-map f tritValue (take n (split 3 5 ds))))

@@ -1,4 +1,4 @@
--- Laws that the proofs of this crate share, over the element type of the output.
+-- Laws that the proofs of the packed draws share, over the element type of the output.
 pub mod Pairing
 pub mod Storing
 pub mod Packing

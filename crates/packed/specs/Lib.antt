@@ -1,5 +1,5 @@
--- What the private functions of this crate say of their tables, of their draws and of where they stopped. Its public functions cite the rules alone.
-pub mod Table
+-- What the functions that draw into each output type say of their tables, of their draws and of where they stopped. Their public draws cite
+-- the rules alone.
 pub mod Pairs
 pub mod Cutting
 pub mod Serving

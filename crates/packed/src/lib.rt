@@ -1,11 +1,5 @@
-// The draws that need no sampler: values written straight from lent words, as the Rust's module `common` has them.
-pub mod binary;
-mod bytes;
-mod draws;
-mod needed;
-mod pairs_i64;
-mod pairs_u64;
-mod stores_i64;
-mod stores_u64;
-pub mod ternary;
-mod width;
+// What the draws packed into words share, whatever the output's type: how a word is cut, how many words a draw takes, the laws of the
+// loops that store. The draws stand in crates of their own, one for each output type.
+pub mod bytes;
+pub mod needed;
+pub mod width;

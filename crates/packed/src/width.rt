@@ -1,5 +1,5 @@
 // How a word is cut into digits, lowest first.
-pub(crate) enum Width {
+pub enum Width {
     // 32 bits.
     Bits,
     // 16 two-bit groups.

@@ -1,101 +1,63 @@
-// The calls that the lines ask for, and what is found of their answers.
-use crate::line::Asked;
-use crate::line::Distr;
-use crate::line::Verdict;
-use crate::line::asked_of;
-use crate::line::distr_of;
-use crate::line::judged;
-use crate::number::all_plain;
-use crate::number::size_at;
-use crate::number::value_at;
-use crate::output::same_encoded;
-use crate::output::same_signed;
-use crate::slices::part;
-use crate::slices::signs_part;
-use crate::words::fill_words;
-ghost use mathlib.Core.Path.{_≡_};
-ghost use lib.ListN.{length};
+// The calls that the lines ask for, and whether their answers agree.
+use crate::room::coefficients_room;
+use crate::room::reals_room;
+use crate::room::residues_room;
+use crate::room::words_room;
+use answer_file::line::Distr;
+use answer_file::line::agrees;
+use answer_file::line::answer_of;
+use answer_file::line::distr_of;
+use answer_file::line::entries_of;
+use answer_file::line::given_of;
+use answer_file::line::moduli_of;
+use answer_file::line::words_of;
+use answer_file::number::kept;
+use answer_file::number::reals_part;
+use answer_file::number::size_at;
+use answer_file::number::value_at;
+use answer_file::output::put_residues;
+use answer_file::real::fill_reals;
+use answer_file::words::fill_words;
 
-// The most words, elements of an output and moduli that a line may ask for.
+// Where the tables are kept.
+pub(crate) const BOUNDS: usize = 0;
+
+pub(crate) const ENDPOINTS: usize = 10000;
+
+pub(crate) const HEIGHTS: usize = 20000;
+
+pub(crate) const CURVE: usize = 30000;
+
+// The most words and elements of an output that a line may ask for.
 const WORDS: usize = 262144;
 
 const LENGTH: usize = 131072;
 
-const MODULI: usize = 64;
-
-// Room for words. The `ensures` gives the length, which lending the array needs.
-fn words_room() -> [u32; 262144]
-    ensures { λ r. ⌜ 262144 ≡ length r ⌝ }
-{
-    [0; 262144]
-}
-
-// Room for signed coefficients, none of which a draw is to leave as it is.
-fn coefficients_room() -> [i64; 131072]
-    ensures { λ r. ⌜ 131072 ≡ length r ⌝ }
-{
-    [9; 131072]
-}
-
-// Room for residues.
-fn residues_room() -> [u64; 131072]
-    ensures { λ r. ⌜ 131072 ≡ length r ⌝ }
-{
-    [9; 131072]
-}
-
 // A line `1` DISTR number.
-pub(crate) fn making(values: &[u64], signs: &[bool]) -> Verdict {
-    let distr = distr_of(values, signs);
-    if !(distr.good & (values.len() == 9) & all_plain(signs, 8, 9)) {
-        return Verdict::Unreadable;
-    }
+pub(crate) fn making(values: &[u64]) -> bool {
+    let distr = distr_of(values);
     let number = beside::beside_make(distr.kind, distr.a, distr.b, distr.p, distr.q);
-    if number as u64 == value_at(values, 8) {
-        Verdict::Agrees
-    } else {
-        Verdict::Number
-    }
+    number as u64 == value_at(values, 8)
 }
 
-// Where the words begin in the line of a draw, after n, or n and the modulus, or the length, the coefficients and the moduli; past
-// every line where it has too many moduli.
-fn words_begin(values: &[u64]) -> usize {
-    let tag = value_at(values, 0);
-    if tag == 2 {
-        return 9;
-    }
-    if tag == 3 {
-        return 10;
-    }
-    let moduli = size_at(values, 10);
-    if moduli <= MODULI {
-        11 + moduli
-    } else {
-        0xffff_ffff_ffff_ffff
-    }
-}
-
-// A draw of signed coefficients: n stands at index 8.
+// The number of a draw of signed coefficients, which are put into the output.
 fn signed(
     distr: Distr,
-    asked: Asked,
-    values: &[u64],
+    place: usize,
     bounds: &[u64],
     endpoints: &[u64],
     heights: &[f64],
     curve: &[f64],
     words: &[u32],
-    told: &[u64],
-    told_signs: &[bool],
-) -> Verdict {
-    let n = size_at(values, 8);
+    output: &mut [u64],
+    new_place: &mut usize,
+) -> u32 {
+    let n = output.len();
     if LENGTH < n {
-        return Verdict::Unreadable;
+        return 0;
     }
     let mut room = coefficients_room();
-    let output = &mut room[0..n];
-    let mut place = 0;
+    let coefficients = &mut room[0..n];
     let number = beside::beside_signed(
         distr.kind,
         distr.a,
@@ -107,19 +69,18 @@ fn signed(
         heights,
         curve,
         words,
-        asked.place,
-        output,
-        &mut place,
+        place,
+        coefficients,
+        new_place,
     );
-    judged(asked, number, place, same_signed(output, told, told_signs))
+    put_residues(coefficients, output);
+    number
 }
 
-// The number of a draw of residues: of one modulus, which stands at index 9, or of several, with the coefficients at 9 and the
-// number of moduli at 10.
-fn residues_number(
-    distr: Distr,
-    place: usize,
+// The number of a draw of residues: of one modulus, which stands at index 9, or of several, with the coefficients at 9.
+fn encoded(
     values: &[u64],
+    place: usize,
     bounds: &[u64],
     endpoints: &[u64],
     heights: &[f64],
@@ -128,6 +89,7 @@ fn residues_number(
     output: &mut [u64],
     new_place: &mut usize,
 ) -> u32 {
+    let distr = distr_of(values);
     if value_at(values, 0) == 3 {
         let modulus = value_at(values, 9);
         return beside::beside_encoded(
@@ -148,7 +110,7 @@ fn residues_number(
         );
     }
     let count = size_at(values, 9);
-    let moduli = part(values, 11, words_begin(values));
+    let moduli = moduli_of(values);
     beside::beside_crt(
         distr.kind,
         distr.a,
@@ -168,95 +130,95 @@ fn residues_number(
     )
 }
 
-// A draw of residues: n, or the length of all rows, stands at index 8.
-fn residues(
-    distr: Distr,
-    asked: Asked,
+// The number of a draw: of signed coefficients, or of residues.
+fn number_of(
     values: &[u64],
+    place: usize,
     bounds: &[u64],
     endpoints: &[u64],
     heights: &[f64],
     curve: &[f64],
     words: &[u32],
-    told: &[u64],
-    told_signs: &[bool],
-) -> Verdict {
-    let n = size_at(values, 8);
-    if LENGTH < n {
-        return Verdict::Unreadable;
+    output: &mut [u64],
+    new_place: &mut usize,
+) -> u32 {
+    if value_at(values, 0) == 2 {
+        return signed(
+            distr_of(values),
+            place,
+            bounds,
+            endpoints,
+            heights,
+            curve,
+            words,
+            output,
+            new_place,
+        );
     }
-    let mut room = residues_room();
-    let output = &mut room[0..n];
-    let mut place = 0;
-    let number = residues_number(
-        distr,
-        asked.place,
+    encoded(
         values,
+        place,
         bounds,
         endpoints,
         heights,
         curve,
         words,
         output,
-        &mut place,
-    );
-    judged(asked, number, place, same_encoded(output, told, told_signs))
+        new_place,
+    )
+}
+
+// The number of a draw that is lent the tables that are kept.
+fn number_by_tables(
+    room: &[u64],
+    values: &[u64],
+    place: usize,
+    words: &[u32],
+    output: &mut [u64],
+    new_place: &mut usize,
+) -> u32 {
+    let heights = kept(room, HEIGHTS);
+    let curve = kept(room, CURVE);
+    let mut heights_room = reals_room();
+    let mut curve_room = reals_room();
+    fill_reals(heights, &mut heights_room);
+    fill_reals(curve, &mut curve_room);
+    number_of(
+        values,
+        place,
+        entries_of(kept(room, BOUNDS)),
+        entries_of(kept(room, ENDPOINTS)),
+        reals_part(&heights_room, 0, size_at(heights, 1)),
+        reals_part(&curve_room, 0, size_at(curve, 1)),
+        words,
+        output,
+        new_place,
+    )
+}
+
+// A draw by words: n, or the length of all rows, stands at index 8.
+fn drawn(room: &[u64], values: &[u64], answer: &[u64], words: &[u32]) -> bool {
+    let n = size_at(values, 8);
+    if LENGTH < n {
+        return false;
+    }
+    let mut residues = residues_room();
+    let output = &mut residues[0..n];
+    let mut place = 0;
+    let number = number_by_tables(room, values, size_at(answer, 0), words, output, &mut place);
+    agrees(value_at(values, 0), answer, number, place, output)
 }
 
 // A line of a draw: `2` DISTR n, `3` DISTR n modulus, or `4` DISTR length coefficients moduli-count modulus.., and then
 // WORDS place ANSWER.
-pub(crate) fn draw(
-    values: &[u64],
-    signs: &[bool],
-    bounds: &[u64],
-    endpoints: &[u64],
-    heights: &[f64],
-    curve: &[f64],
-) -> Verdict {
-    let begin = words_begin(values);
-    if values.len() < begin {
-        return Verdict::Unreadable;
-    }
-    let rest = part(values, begin, values.len());
-    let rest_signs = signs_part(signs, begin, signs.len());
-    let distr = distr_of(values, signs);
-    let asked = asked_of(rest, rest_signs, size_at(values, 8));
-    let count = asked.count;
-    if !(distr.good & asked.good & all_plain(signs, 8, begin)) {
-        return Verdict::Unreadable;
-    }
+pub(crate) fn draw(room: &[u64], values: &[u64]) -> bool {
+    let rest = words_of(values);
+    let count = size_at(rest, 0);
     if WORDS < count {
-        return Verdict::Unreadable;
+        return false;
     }
-    let mut room = words_room();
-    let words = &mut room[0..count];
-    fill_words(words, part(rest, 3, asked.words_end), asked.seed);
-    let told = part(rest, asked.output, rest.len());
-    let told_signs = signs_part(rest_signs, asked.output, rest_signs.len());
-    if value_at(values, 0) == 2 {
-        return signed(
-            distr,
-            asked,
-            values,
-            bounds,
-            endpoints,
-            heights,
-            curve,
-            words,
-            told,
-            told_signs,
-        );
-    }
-    residues(
-        distr,
-        asked,
-        values,
-        bounds,
-        endpoints,
-        heights,
-        curve,
-        words,
-        told,
-        told_signs,
-    )
+    let mut all = words_room();
+    let words = &mut all[0..count];
+    fill_words(words, given_of(rest), value_at(rest, 1));
+    drawn(room, values, answer_of(rest), words)
 }

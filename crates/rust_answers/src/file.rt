@@ -1,56 +1,60 @@
-// A file of answers, line by line.
+// A file of answers, line by line. The room for numbers has a part of 10,000 for each table, and one for the line of an answer.
 use crate::draws;
-use crate::line::Verdict;
-use crate::number::read_numbers;
-use crate::number::value_at;
-use crate::print::report;
-use crate::slices::part;
-use crate::slices::reals_part;
-use crate::slices::second_numbers;
-use crate::slices::second_reals;
-use crate::slices::signs_part;
-use crate::table::load;
-ghost use mathlib.Core.Path.{_≡_};
+use crate::room::numbers_room;
+use crate::tally::Tally;
+use crate::tally::empty;
+use crate::tally::with_answer;
+use crate::tally::with_table;
+use answer_file::line::is_draw;
+use answer_file::line::is_making;
+use answer_file::line::is_table;
+use answer_file::number::kept;
+use answer_file::reading::read_numbers;
 ghost use Prim.Native.Nat.{_≤_};
 ghost use lib.ListN.{length};
 
-// The lines that were read, the answers in them and those that agree, and the entries of each table.
-pub(crate) struct State {
-    pub lines: u64,
-    pub answers: u64,
-    pub agree: u64,
-    pub bounds: usize,
-    pub endpoints: usize,
-    pub heights: usize,
-    pub curve: usize,
+// The line of an answer is kept here.
+const ANSWER: usize = 40000;
+
+// Where a line is kept, by its first byte: a table has a part of its own.
+fn begin_of(line: &[u8]) -> usize
+    ensures { λ r. ⌜ r ≤ 40000 ⌝ }
+{
+    if line.len() == 0 {
+        return ANSWER;
+    }
+    match line[0] {
+        b'5' => draws::BOUNDS,
+        b'6' => draws::ENDPOINTS,
+        b'7' => draws::HEIGHTS,
+        b'8' => draws::CURVE,
+        _ => ANSWER,
+    }
 }
 
-// Room for the numbers of a line. The `ensures` gives the length, which lending the array needs.
-fn numbers_room() -> [u64; 16384]
-    ensures { λ r. ⌜ 16384 ≡ length r ⌝ }
-{
-    [0; 16384]
+// Whether the line of an answer that is kept agrees.
+fn agrees(room: &[u64]) -> bool {
+    let values = kept(room, ANSWER);
+    if is_making(values) {
+        return draws::making(values);
+    }
+    if is_draw(values) {
+        return draws::draw(room, values);
+    }
+    false
 }
 
-// Room for their signs.
-fn signs_room() -> [bool; 16384]
-    ensures { λ r. ⌜ 16384 ≡ length r ⌝ }
+// Keeps a line, and judges it.
+fn read_line(tally: Tally, line: &[u8], room: &mut [u64]) -> Tally
+    requires { ⌜ 50000 ≤ length (now room) ⌝ }
 {
-    [false; 16384]
-}
-
-// Room for two tables of numbers.
-fn tables_room() -> [u64; 16384]
-    ensures { λ r. ⌜ 16384 ≡ length r ⌝ }
-{
-    [0; 16384]
-}
-
-// Room for two tables of reals.
-fn reals_room() -> [f64; 16384]
-    ensures { λ r. ⌜ 16384 ≡ length r ⌝ }
-{
-    [0.0; 16384]
+    let begin = begin_of(line);
+    let last = begin + 9999;
+    room[last] = read_numbers(line, &mut room[begin..last]) as u64;
+    if begin < ANSWER {
+        return with_table(tally, is_table(kept(room, begin)));
+    }
+    with_answer(tally, agrees(room))
 }
 
 // The end of the line that begins at a byte: its newline, or the end of the text.
@@ -68,130 +72,22 @@ fn line_end(text: &[u8], from: usize) -> usize
     at
 }
 
-// One answer more.
-fn counted(state: State, agrees: bool) -> State {
-    let mut next = state;
-    next.answers = std::num::wrapping_add_u64(next.answers, 1);
-    if agrees {
-        next.agree = std::num::wrapping_add_u64(next.agree, 1);
-    }
-    next
-}
-
-// A table that has so many entries now.
-fn with_table(state: State, tag: u64, count: usize) -> State {
-    let mut next = state;
-    if tag == 5 {
-        next.bounds = count;
-    } else if tag == 6 {
-        next.endpoints = count;
-    } else if tag == 7 {
-        next.heights = count;
-    } else {
-        next.curve = count;
-    }
-    next
-}
-
-// What is found of a line that is no table: the draws are lent the entries that each table has.
-fn judge(state: State, values: &[u64], signs: &[bool], tables: &[u64], reals: &[f64]) -> Verdict {
-    let tag = value_at(values, 0);
-    if tag == 1 {
-        return draws::making(values, signs);
-    }
-    if tag < 2 || 4 < tag {
-        return Verdict::Unreadable;
-    }
-    draws::draw(
-        values,
-        signs,
-        part(tables, 0, state.bounds),
-        second_numbers(tables, state.endpoints),
-        reals_part(reals, 0, state.heights),
-        second_reals(reals, state.curve),
-    )
-}
-
-// The state after a line that lends a table.
-fn after_table(
-    state: State,
-    name: &[u8],
-    values: &[u64],
-    signs: &[bool],
-    tables: &mut [u64],
-    reals: &mut [f64],
-) -> State {
-    let loaded = load(values, signs, tables, reals);
-    if loaded.good {
-        return with_table(state, value_at(values, 0), loaded.count);
-    }
-    counted(state, report(name, state.lines, Verdict::Unreadable))
-}
-
-// The state after a line.
-fn after_line(
-    state: State,
-    name: &[u8],
-    values: &[u64],
-    signs: &[bool],
-    tables: &mut [u64],
-    reals: &mut [f64],
-) -> State {
-    let tag = value_at(values, 0);
-    if 5 <= tag && tag <= 8 {
-        return after_table(state, name, values, signs, tables, reals);
-    }
-    let verdict = judge(state, values, signs, tables, reals);
-    counted(state, report(name, state.lines, verdict))
-}
-
-// Takes a line apart, and judges it.
-fn read_line(
-    state: State,
-    name: &[u8],
-    line: &[u8],
-    tables: &mut [u64],
-    reals: &mut [f64],
-) -> State {
-    let mut next = state;
-    next.lines = std::num::wrapping_add_u64(next.lines, 1);
-    let mut numbers = numbers_room();
-    let mut signs = signs_room();
-    let count = read_numbers(line, &mut numbers, &mut signs);
-    let values = part(&numbers, 0, count);
-    after_line(
-        next,
-        name,
-        values,
-        signs_part(&signs, 0, count),
-        tables,
-        reals,
-    )
-}
-
 // Judges all lines of a text.
-fn read_lines(name: &[u8], text: &[u8], tables: &mut [u64], reals: &mut [f64]) -> State {
-    let mut state = State {
-        lines: 0,
-        answers: 0,
-        agree: 0,
-        bounds: 0,
-        endpoints: 0,
-        heights: 0,
-        curve: 0,
-    };
+fn read_lines(text: &[u8], room: &mut [u64]) -> Tally
+    requires { ⌜ 50000 ≤ length (now room) ⌝ }
+{
+    let mut tally = empty();
     let mut at = 0;
     while at < text.len() {
         let end = line_end(text, at);
-        state = read_line(state, name, &text[at..end], tables, reals);
+        tally = read_line(tally, &text[at..end], room);
         at = if end < text.len() { end + 1 } else { end };
     }
-    state
+    tally
 }
 
 // Judges a file's text, with tables of its own.
-pub(crate) fn judge_text(name: &[u8], text: &[u8]) -> State {
-    let mut tables = tables_room();
-    let mut reals = reals_room();
-    read_lines(name, text, &mut tables, &mut reals)
+pub(crate) fn judge_text(text: &[u8]) -> Tally {
+    let mut room = numbers_room();
+    read_lines(text, &mut room)
 }

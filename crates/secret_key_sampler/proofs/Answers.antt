@@ -15,12 +15,13 @@ use Rattle.distr.specs.Draw.{Outcome, signedDraw, encodedDraw}
 use Rattle.draw_laws.proofs.Signed.{signed-unmade}
 use Rattle.draw_laws.proofs.Encoded.{of-secret, encoded-unmade, encoded-length, encoded-modulus}
 use Rattle.secret_key_sampler.specs.declared.SecretKeySampler.{SecretKeySampler}
-use Rattle.secret_key_sampler.specs.declared.SamplingMethod.{SamplingMethod}
-use Rattle.secret_key_sampler.specs.Sampler.{isMade, magnitudeOf}
-use Rattle.secret_key_sampler.specs.Method.{signedWrites, residueWrites, methodDraw}
-use Rattle.secret_key_sampler.proofs.Preparing.{refused-none}
+use Rattle.secret_key_method.specs.declared.SamplingMethod.{SamplingMethod}
+use Rattle.secret_key_method.specs.Method.{magnitudeOf}
+use Rattle.secret_key_sampler.specs.Sampler.{isMade}
+use Rattle.secret_key_draws.specs.Drawing.{signedWrites, residueWrites, methodDraw}
+use Rattle.distr.proofs.Drawing.{not-refused}
 use Rattle.secret_key_sampler.proofs.Made.{fitting, made-number, made-method, made-magnitude}
-use Rattle.secret_key_sampler.proofs.Drawing.{prepared-signed, prepared-encoded}
+use Rattle.secret_key_draws.proofs.Drawing.{prepared-signed, prepared-encoded}
 
 -- What a test told, said of the sampler.
 pub is-unmade : (s : SecretKeySampler) (told : Bool) → told ≡ isMade s → not told ≡ true → isMade s ≡ false
@@ -41,7 +42,7 @@ modulus-low most q k e h = go (leb q most) refl
     go false t = absurd (h (e ∙ rw t))
 
 pub modulus-above : (most q k : ℕ) → k ≡ modulusNumber most q → k ≡ 0 → most < q
-modulus-above most q k e h = leb-false q most (refused-none (leb q most) 8 (sym e ∙ h))
+modulus-above most q k e h = leb-false q most (not-refused (leb q most) 8 (sym e ∙ h))
 
 pub modulus-some : (most q k : ℕ) → k ≡ modulusNumber most q → k ≡ 0 → 1 ≤ q
 modulus-some most q k e h = omega (arith, modulus-above most q k e h)

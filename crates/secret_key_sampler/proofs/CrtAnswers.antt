@@ -11,25 +11,22 @@ use Rattle.distr.specs.declared.secret_key_distr.SecretKeyDistr.the-variants as
 use Rattle.distr.specs.declared.secret_key_distr.BlockOccupancy.the-variants.{AtMostOne, ExactlyOne}
 use Rattle.distr.specs.declared.error_distribution.ErrorDistribution.the-variants as Error
 use Rattle.distr.specs.Gaussian.{literal}
-use Rattle.distr.specs.Thresholds.{threshold}
 use Rattle.distr.specs.Distribution.{Tables, onDeviation, secret, error}
 use Rattle.distr.specs.Making.{makingNumber, secretNumber, errorNumber}
 use Rattle.distr.specs.Numbers.{servesCrt}
 use Rattle.distr.specs.Draw.{Outcome, crtDraw}
 use Rattle.draw_laws.proofs.Crt.{crt-unmade}
-use Rattle.ternary.specs.declared.ternary.TernaryValue.the-variants.{MinusOne, Zero, One}
-use Rattle.ternary.specs.declared.ternary.TernarySampler.{TernarySampler}
-use Rattle.ternary.specs.declared.ternary.TernarySampler.the-variants.{Constant, Nonzero, General}
-use Rattle.ternary.specs.Sampler.{samplerOf}
 use Rattle.error_sampler.specs.declared.ErrorSampler.{ErrorSampler}
 use Rattle.error_sampler.specs.declared.MadeSampler.{MadeSampler}
 use Rattle.error_sampler.specs.Sampler.{making, emptySampler, isMade as isMadeError}
 use Rattle.error_sampler.proofs.Made.{empty-not-made}
 use Rattle.error_sampler.proofs.Secrets.{making-gaussian, secret-gaussian}
 use Rattle.secret_key_sampler.specs.declared.SecretKeySampler.{SecretKeySampler}
-use Rattle.secret_key_sampler.specs.declared.SamplingMethod.{SamplingMethod}
-use Rattle.secret_key_sampler.specs.declared.MethodFields.{MethodFields}
-use Rattle.secret_key_sampler.specs.Sampler.{prepared, ternaryFields, methodFields, isMade}
+use Rattle.secret_key_method.specs.declared.SamplingMethod.{SamplingMethod}
+use Rattle.method_fields.specs.declared.MethodFields.{MethodFields}
+use Rattle.secret_key_method.specs.Method.{prepared, methodFields}
+use Rattle.secret_key_method.proofs.SameMethod.{ternary-deviation}
+use Rattle.secret_key_sampler.specs.Sampler.{isMade}
 use Rattle.secret_key_sampler.proofs.Made.{fitting, made-number, made-method}
 use Rattle.secret_key_sampler.proofs.Answers.{is-unmade, is-made, made-so}
 
@@ -40,13 +37,6 @@ ofDeviation deviation = making (Error.Gaussian deviation) .sampler
 none-of-zero : ofDeviation (literal 0 1) ≡ emptySampler
 unfolding errorNumber lt round
 none-of-zero = refl
-
-ternary-deviation : (s : TernarySampler) → ternaryFields s .deviation ≡ literal 0 1
-ternary-deviation (Constant MinusOne) = refl
-ternary-deviation (Constant Zero) = refl
-ternary-deviation (Constant One) = refl
-ternary-deviation (Nonzero N) = refl
-ternary-deviation (General N E) = refl
 
 module _ (tables : Tables) (count : ℕ) (moduli words : List ℕ) (place : ℕ) (out : List ℕ) where
   -- the draw of an error sampler
@@ -73,7 +63,7 @@ module _ (tables : Tables) (count : ℕ) (moduli words : List ℕ) (place : ℕ)
   prepared-crt Distr.SparseTernary z = not-served Distr.SparseTernary refl refl
   prepared-crt Distr.UniformTernary z = not-served Distr.UniformTernary refl refl
   prepared-crt (Distr.Ternary minus plus) z =
-      not-served (Distr.Ternary minus plus) (ternary-deviation (samplerOf (threshold minus) (threshold plus))) refl
+      not-served (Distr.Ternary minus plus) (ternary-deviation minus plus) refl
   prepared-crt (Distr.FixedHammingWeightBinary h) z = not-served (Distr.FixedHammingWeightBinary h) refl refl
   prepared-crt (Distr.BlockBinary size AtMostOne) z = not-served (Distr.BlockBinary size AtMostOne) refl refl
   prepared-crt (Distr.BlockBinary size ExactlyOne) z = not-served (Distr.BlockBinary size ExactlyOne) refl refl

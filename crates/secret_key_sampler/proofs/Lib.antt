@@ -2,7 +2,6 @@
 pub mod Preparing
 pub mod Made
 pub mod Held
-pub mod Drawing
 pub mod Answers
 pub mod CrtAnswers
 pub mod Calls

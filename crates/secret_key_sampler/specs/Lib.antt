@@ -1,3 +1,2 @@
--- What a secret-key sampler is made of, which samplers making gives, and what each method draws.
+-- Making a secret-key sampler, and which samplers making gives.
 pub mod Sampler
-pub mod Method

@@ -1,9 +1,9 @@
 // The CRT draw by a prepared sampler: a row of residues for each of several moduli.
 use crate::SecretKeySampler;
-use crate::fields::method_fields;
 use distr::answer::Answer;
 use distr::error_distribution::ErrorDistribution;
 use error_sampler::ErrorSampler;
+use secret_key_method::fields::method_fields;
 ghost use mathlib.Core.Path.{_≡_};
 ghost use Rattle.distr.specs.Distribution.{secret};
 ghost use Rattle.distr.specs.Draw.{outcome, crtDraw};

@@ -1,23 +1,22 @@
 // Whole keys from lent words: a prepared sampler with signed, encoded and CRT output.
 mod crt;
 mod encoded;
-mod fields;
-mod prepare;
 mod signed;
 
-use distr::gaussian_parameters::GaussianParameters;
-use distr::secret_key_distr::BlockOccupancy;
 use distr::secret_key_distr::SecretKeyDistr;
-use distr::threshold::Threshold;
-use ternary::ternary::TernarySampler;
-ghost use Prim.Native.Nat.{_+_, _%_};
-ghost use mathlib.Core.Bool.{not, _||_};
+use method_fields::same_fields;
+use numbers::block_number;
+use numbers::weight_number;
+use secret_key_method::SamplingMethod;
+pub use secret_key_method::family::is_binary;
+pub use secret_key_method::family::is_ternary;
+use secret_key_method::fields::method_fields;
+use secret_key_method::prepare;
 ghost use mathlib.Core.Path.{_≡_};
-ghost use lib.Dec.{eqb};
 ghost use Rattle.distr.specs.Distribution.{secret};
-ghost use Rattle.distr.specs.Making.{refuse};
-ghost use Rattle.distr.specs.Numbers.{badWeight, lengthNumber, modulusNumber};
-ghost use Rattle.secret_key_sampler.specs.Sampler.{making, isMade, magnitudeOf, familyOf, isBinary, isTernary};
+ghost use Rattle.distr.specs.Numbers.{lengthNumber, modulusNumber};
+ghost use Rattle.secret_key_method.specs.Method.{magnitudeOf};
+ghost use Rattle.secret_key_sampler.specs.Sampler.{making, isMade};
 
 // A prepared sampler. Its fields are public, so a draw judges first whether making gives it (21).
 pub struct SecretKeySampler {
@@ -25,50 +24,10 @@ pub struct SecretKeySampler {
     pub method: SamplingMethod,
 }
 
-// Prepared state for one algorithm; dispatch stays outside coefficient loops. Empty is the method of a sampler that was refused.
-pub enum SamplingMethod {
-    UniformBinary,
-    Binary(Threshold),
-    SparseTernary,
-    UniformTernary,
-    Ternary(TernarySampler),
-    FixedHammingWeightBinary {
-        hamming_weight: usize,
-    },
-    BlockBinary {
-        block_size: usize,
-        occupancy: BlockOccupancy,
-    },
-    FixedHammingWeightTernary {
-        hamming_weight: usize,
-    },
-    FixedCompositionTernary {
-        negative_one_weight: usize,
-        one_weight: usize,
-    },
-    Gaussian(GaussianParameters),
-    Empty,
-}
-
-// The number of making a distribution and, where it is 0, its method; else Empty.
-pub struct PreparedMethod {
-    pub number: u32,
-    pub method: SamplingMethod,
-}
-
 // What making hands back: number 0 and the sampler, or the number that refuses and the empty sampler.
 pub struct MadeSampler {
     pub number: u32,
     pub sampler: SecretKeySampler,
-}
-
-// The fields of a method, one record for all of them, so that two methods are compared number by number.
-pub struct MethodFields {
-    pub kind: u32,
-    pub full: bool,
-    pub first: u64,
-    pub second: u64,
-    pub deviation: f64,
 }
 
 impl SecretKeySampler {
@@ -152,53 +111,7 @@ impl SecretKeySampler {
         ensures { λ r. ⌜ r ≡ magnitudeOf (self .method) ⌝ }
     {
         let method = self.method;
-        match method {
-            SamplingMethod::UniformBinary => 1,
-            SamplingMethod::Binary(_) => 1,
-            SamplingMethod::SparseTernary => 1,
-            SamplingMethod::UniformTernary => 1,
-            SamplingMethod::Ternary(_) => 1,
-            SamplingMethod::FixedHammingWeightBinary { hamming_weight: _ } => 1,
-            SamplingMethod::BlockBinary {
-                block_size: _,
-                occupancy: _,
-            } => 1,
-            SamplingMethod::FixedHammingWeightTernary { hamming_weight: _ } => 1,
-            SamplingMethod::FixedCompositionTernary {
-                negative_one_weight: _,
-                one_weight: _,
-            } => 1,
-            SamplingMethod::Gaussian(parameters) => parameters.maximum_magnitude,
-            SamplingMethod::Empty => 1,
-        }
-    }
-}
-
-// 7 where the sum of two weights is over the length, also where a u64 does not hold it; else 0.
-fn weight_number(first: usize, second: usize, length: usize) -> u32
-    ensures { λ r. ⌜ r ≡ badWeight (first + second) length ⌝ }
-{
-    if length < first {
-        7
-    } else if length - first < second {
-        7
-    } else {
-        0
-    }
-}
-
-// 8 for the length 0 and for one that is no multiple of the block size; else 0.
-fn block_number(block_size: usize, length: usize) -> u32
-    ensures { λ r. ⌜ r ≡ refuse (eqb length 0 || not (eqb (length % «block_size») 0)) 8 ⌝ }
-{
-    if length == 0 {
-        8
-    } else if block_size == 0 {
-        8
-    } else if length % block_size == 0 {
-        0
-    } else {
-        8
+        secret_key_method::maximum_magnitude(method)
     }
 }
 
@@ -210,49 +123,6 @@ pub fn is_made(sampler: SecretKeySampler) -> bool
     let method = sampler.method;
     let prepared = prepare::prepare(distr);
     let again = prepared.method;
-    let same = fields::same_fields(fields::method_fields(method), fields::method_fields(again));
+    let same = same_fields(method_fields(method), method_fields(again));
     (prepared.number == 0) & same
-}
-
-// The family of a distribution: 2 where only 0 and 1 come, 3 where also -1, and 0 for the Gaussian.
-fn family(distr: SecretKeyDistr) -> u32
-    ensures { λ r. ⌜ r ≡ familyOf distr ⌝ }
-{
-    match distr {
-        SecretKeyDistr::UniformBinary => 2,
-        SecretKeyDistr::Binary { one_probability: _ } => 2,
-        SecretKeyDistr::SparseTernary => 3,
-        SecretKeyDistr::UniformTernary => 3,
-        SecretKeyDistr::Ternary {
-            negative_one_probability: _,
-            one_probability: _,
-        } => 3,
-        SecretKeyDistr::FixedHammingWeightBinary { hamming_weight: _ } => 2,
-        SecretKeyDistr::BlockBinary {
-            block_size: _,
-            occupancy: _,
-        } => 2,
-        SecretKeyDistr::FixedHammingWeightTernary { hamming_weight: _ } => 3,
-        SecretKeyDistr::FixedCompositionTernary {
-            negative_one_weight: _,
-            one_weight: _,
-        } => 3,
-        SecretKeyDistr::Gaussian {
-            standard_deviation: _,
-        } => 0,
-    }
-}
-
-// Whether a distribution gives only 0 and 1.
-pub fn is_binary(distr: SecretKeyDistr) -> bool
-    ensures { λ r. ⌜ r ≡ isBinary distr ⌝ }
-{
-    family(distr) == 2
-}
-
-// Whether a distribution is of the ternary family.
-pub fn is_ternary(distr: SecretKeyDistr) -> bool
-    ensures { λ r. ⌜ r ≡ isTernary distr ⌝ }
-{
-    family(distr) == 3
 }

@@ -6,4 +6,4 @@ pub mod Signs
 pub mod Lines
 pub mod Lengths
 pub mod WellFormed
-pub mod Requests
+pub mod Answers

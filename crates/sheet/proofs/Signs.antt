@@ -1,16 +1,16 @@
--- A signed number by its test for being negative: its text, and its magnitude out of its bits.
+-- The text of a signed number, by its test for being negative.
 use mathlib.Core.Path.{_≡_, refl}
 use mathlib.Core.Bool.{true, false}
 use mathlib.Core.List.{_∷_}
-use Prim.Native.Nat.{ℕ, suc, _-_, _^_, _<_, _≤_}
+use Prim.Native.Nat.{ℕ, suc, _≤_}
 use native.Mathlib.Omega.{arith}
 use mir.Syntax.{w64}
 use mir.Val.{SFits, ofZ, toZ}
-use mir.Facts.{toZ-ofZ, toZ-pos}
-use lib.Dec.{T, leb·suc-zero}
+use mir.Facts.{toZ-ofZ}
+use lib.Dec.{leb·suc-zero}
 use lib.ListN.{length}
 use lib.IntN.{ℤ, pos, negsuc, natAbs}
-use lib.Signed.{ltZ, nonNeg}
+use lib.Signed.{ltZ}
 use Rattle.sheet.specs.Text.{decimal, signedText}
 use Rattle.sheet.proofs.Digits.{decimal-few}
 
@@ -25,23 +25,6 @@ unfolding signedText
 plain-text (pos n) e = refl
 plain-text (negsuc n) e = let no : true ≡ false = e in let z : _≡_ {A = ℕ} 0 1 = cc in absurd (omega arith)
 
--- the bits of a negative number, each turned over, are its magnitude less one
-pub record Turned (v : ℤ) : Type 0 where
-  pub some : 0 < natAbs v
-  pub small : natAbs v ≤ 2 ^ 63
-  pub bits : toZ w64 (18446744073709551615 - ofZ w64 v) ≡ pos (natAbs v - 1)
-
-turned-bits : (v : ℤ) → SFits w64 v → ltZ v (pos 0) ≡ true → Turned v
-turned-bits (pos n) f e = let no : false ≡ true = rw leb·suc-zero at e in let z : _≡_ {A = ℕ} 0 1 = cc in absurd (omega arith)
-turned-bits (negsuc n) f e =
-    let back : 18446744073709551615 - (2 ^ 64 - suc n) ≡ n = omega (arith, f .sfits) in
-    let before : suc n - 1 ≡ n = omega arith in
-    record { some = omega arith; small = omega (arith, f .sfits); bits = rw (back, before) (toZ-pos w64 (f .sfits)) }
-
-not-negative : (v : ℤ) → ltZ v (pos 0) ≡ false → T (nonNeg v)
-not-negative (pos n) e = tt
-not-negative (negsuc n) e = let no : true ≡ false = e in let z : _≡_ {A = ℕ} 0 1 = cc in absurd (omega arith)
-
 -- the same by the test that the code makes, on the bits
 module _ (v : ℤ) (fits : SFits w64 v) where
   pub minus : {size : ℕ} → size ≡ natAbs (toZ w64 (ofZ w64 v)) → ltZ (toZ w64 (ofZ w64 v)) (pos 0) ≡ true → signedText v ≡ 45 ∷ decimal size
@@ -49,12 +32,6 @@ module _ (v : ℤ) (fits : SFits w64 v) where
 
   pub plain : {size : ℕ} → size ≡ natAbs (toZ w64 (ofZ w64 v)) → ltZ (toZ w64 (ofZ w64 v)) (pos 0) ≡ false → signedText v ≡ decimal size
   plain s e = rw (s, toZ-ofZ fits) (plain-text v (rw (toZ-ofZ fits) at e))
-
-  pub turned : ltZ (toZ w64 (ofZ w64 v)) (pos 0) ≡ true → Turned v
-  turned e = turned-bits v fits (rw (toZ-ofZ fits) at e)
-
-  pub above : ltZ (toZ w64 (ofZ w64 v)) (pos 0) ≡ false → T (nonNeg v)
-  above e = not-negative v (rw (toZ-ofZ fits) at e)
 
 -- a signed number of 64 bits takes at most 20 bytes: 19 digits and a sign
 pub signed-few : (v : ℤ) → SFits w64 v → length (signedText v) ≤ 20

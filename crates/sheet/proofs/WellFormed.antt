@@ -6,6 +6,7 @@ use Prim.Native.Nat.{ℕ, _+_, _*_, _≤_}
 use borrow.Author.Tests.{leb-true, ltb-false, eqb-true, not-false}
 use lib.Dec.{leb, ltb, eqb}
 use lib.ListN.{length}
+use Rattle.distr.proofs.Reading.{or-false}
 use Rattle.sheet.specs.declared.fields.Fields.{Fields}
 use Rattle.sheet.specs.Sheet.{fieldsOf, badFields, malformed}
 
@@ -22,10 +23,6 @@ pub record WellFormed (s : List ℕ) : Type 0 where
   pub long : 32 ≤ length s
   pub short : length s ≤ 65536
   pub good : Good (fieldsOf s) (length s)
-
-or-false : (a b : Bool) → a || b ≡ false → (a ≡ false) × (b ≡ false)
-or-false true b e = let no : true ≡ false = e in (no, (cc))
-or-false false b e = (refl, e)
 
 and-true : (a b : Bool) → a && b ≡ true → (a ≡ true) × (b ≡ true)
 and-true true b e = (refl, e)

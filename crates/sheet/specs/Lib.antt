@@ -2,4 +2,3 @@
 pub mod Text
 pub mod Written
 pub mod Sheet
-pub mod Request

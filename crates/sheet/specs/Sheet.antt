@@ -1,16 +1,14 @@
 -- "The sheet": eight little-endian u32, then words; when it is malformed, what it draws, and its answer.
-use Prim.Native.Nat.{ℕ, zero, suc, _+_, _*_, _-_, _^_}
+use Prim.Native.Nat.{ℕ, zero, suc, _+_, _*_, _^_}
 use mathlib.Core.Bool.{Bool, true, not, cond, _&&_, _||_}
 use mathlib.Core.List.{List, [], _∷_, map}
 use lib.Dec.{leb, ltb, eqb}
 use lib.ListN.{length, getD, replicate}
+use lib.Seq.{sets}
 use lib.IntN.{ℤ, pos}
-use Rattle.distr.specs.declared.secret_key_distr.SecretKeyDistr.the-variants.{UniformBinary, SparseTernary, UniformTernary, FixedHammingWeightBinary, BlockBinary, FixedHammingWeightTernary, FixedCompositionTernary}
-use Rattle.distr.specs.declared.secret_key_distr.BlockOccupancy.the-variants.{AtMostOne, ExactlyOne}
-use Rattle.distr.specs.declared.error_distribution.ErrorDistribution.the-variants.{CenteredBinomial}
-use Rattle.distr.specs.Distribution.{Distr, secret, error, Tables}
 use Rattle.distr.specs.Making.{makingNumber}
 use Rattle.distr.specs.Draw.{Outcome, judged, signedDraw, encodedDraw}
+use Rattle.sheet_request.specs.Request.{kindDistr, noTables}
 use Rattle.sheet.specs.declared.fields.Fields.{Fields}
 use Rattle.sheet.specs.Text.{answerText}
 
@@ -58,27 +56,6 @@ badFields f size =
 unfoldable pub malformed : List ℕ → Bool
 malformed s = ltb (length s) 32 || ltb 65536 (length s) || badFields (fieldsOf s) (length s)
 
--- "Kinds 1 to 9 select the distribution by number." (The last is for the other numbers, which are refused.)
-unfoldable pub kindDistr : ℕ → ℕ → ℕ → Distr
-kindDistr kind a b =
-    getD
-    (secret UniformBinary
-    ∷ secret SparseTernary
-    ∷ secret UniformTernary
-    ∷ secret (FixedHammingWeightBinary a)
-    ∷ secret (BlockBinary a AtMostOne)
-    ∷ secret (BlockBinary a ExactlyOne)
-    ∷ secret (FixedHammingWeightTernary a)
-    ∷ secret (FixedCompositionTernary a b)
-    ∷ error (CenteredBinomial a)
-    ∷ [])
-    (kind - 1)
-    (secret UniformBinary)
-
--- A sheet lends no tables, and no kind needs one.
-abbrev pub noTables : Tables
-noTables = record { bounds = []; layers = record { endpoints = []; heights = []; curve = [] } }
-
 -- Residues as coefficients.
 abbrev pub residues : Outcome ℕ → Outcome ℤ
 residues o = record { number = o .number; place = o .place; output = map pos (o .output) }
@@ -104,3 +81,11 @@ fieldsText f words = outcomeText (f .n) (drawOf (f .kind) (f .n) (f .a) (f .b) (
 -- The whole answer of a sheet.
 unfoldable pub sheetText : List ℕ → List ℕ
 sheetText s = cond (malformed s) (answerText 14 0 0 []) (fieldsText (fieldsOf s) (sheetWords s))
+
+-- A text of 98,304 bytes holds every answer. A shorter one is left as it is and answered with 0; else the answer stands at its start, and the
+-- number of its bytes is handed back.
+abbrev pub textLimit : ℕ
+textLimit = 98304
+
+unfoldable pub answered : List ℕ → List ℕ → ℕ × List ℕ
+answered s text = cond (ltb (length text) textLimit) (0, text) (length (sheetText s), sets text 0 (sheetText s))

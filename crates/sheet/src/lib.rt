@@ -2,14 +2,12 @@
 mod answer;
 mod fields;
 mod reply;
-pub mod request;
 mod text;
 
-pub use text::magnitude;
 ghost use mathlib.Core.Path.{_≡_};
 ghost use Prim.Native.Nat.{_≤_};
 ghost use lib.ListN.{length, take};
-ghost use Rattle.sheet.specs.Request.{answered};
+ghost use Rattle.sheet.specs.Sheet.{answered};
 
 // Room for the words of a sheet.
 fn no_words() -> [u32; 8192]

@@ -1,9 +1,9 @@
 // Writing an answer's text into lent bytes. Each function writes at a place and hands back the place after what it wrote.
-ghost use mathlib.Core.Path.{_≡_};
+use gaussian_core::encode::magnitude;
 ghost use mathlib.Core.List.{map};
 ghost use Prim.Native.Nat.{_+_, _*_, _≤_};
 ghost use lib.ListN.{length};
-ghost use lib.IntN.{pos, natAbs};
+ghost use lib.IntN.{pos};
 ghost use Rattle.sheet.specs.Text.{decimal, signedText, line};
 ghost use Rattle.sheet.specs.Written.{Written};
 
@@ -19,16 +19,6 @@ pub(crate) fn write_number_u64(text: &mut [u8], at: usize, value: u64) -> usize
     let end = write_number_u64(text, at, value / 10);
     text[end] = 48 + (value % 10) as u8;
     end + 1
-}
-
-// The magnitude of a number: of a negative x it is !x + 1, where no step overflows.
-pub fn magnitude(x: i64) -> u64
-    ensures { λ r. ⌜ r ≡ natAbs x ⌝ }
-{
-    if x < 0 {
-        return (!x) as u64 + 1;
-    }
-    x as u64
 }
 
 // A number with its sign.

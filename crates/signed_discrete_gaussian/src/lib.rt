@@ -85,32 +85,3 @@ pub fn sample_gaussian_to_u64(
         )
     }
 }
-
-// The number of the tables that a Gaussian uses, 12 or 13 where they are malformed, else 0.
-pub fn gaussian_table_number(
-    parameters: GaussianParameters,
-    bounds: &[u64],
-    endpoints: &[u64],
-    heights: &[f64],
-    curve: &[f64],
-) -> u32
-    ensures { λ r. ⌜ r ≡
-        gaussianTable (parameters .«maximum_magnitude») (lent (now (bounds .entry)) (now (endpoints .entry)) (now (heights .entry)) (now (curve .entry))) ⌝ }
-{
-    if parameters.maximum_magnitude <= CDT_MAX_MAGNITUDE {
-        if cdt::cdt_table_ok(parameters.maximum_magnitude, bounds) {
-            0
-        } else {
-            12
-        }
-    } else if ziggurat::tables::layer_tables_ok(
-        parameters.maximum_magnitude,
-        endpoints,
-        heights,
-        curve,
-    ) {
-        0
-    } else {
-        13
-    }
-}

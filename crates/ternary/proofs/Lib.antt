@@ -1,6 +1,5 @@
--- Laws of the draws by thresholds.
+-- Laws of the draws by two thresholds.
 pub mod Slots
-pub mod Halves
 pub mod Sampling
 pub mod Values
 pub mod Plans

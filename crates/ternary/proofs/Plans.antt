@@ -3,7 +3,7 @@ use mathlib.Core.Path.{_≡_, refl, sym, ap, _∙_}
 use mathlib.Core.Bool.{Bool, true, false, not, cond, true≢false}
 use mathlib.Core.List.{List, [], _∷_, map}
 use Prim.Native.Nat.{ℕ, _+_, _*_, _^_, _<_, _≤_}
-use lib.Dec.{leb, ltb}
+use lib.Dec.{leb, ltb, lit<}
 use lib.ListN.{length, getD, drop, replicate, List·getD-map}
 use lib.IntN.{ℤ, pos}
 use mir.Val.{boolByte}
@@ -76,23 +76,23 @@ plan-pick f s {p} m y z e r a b c w h =
 
 -- the answer a, and what the output holds then
 module _ {A : Type 0} (f : ℤ → A) (words : List ℕ) (place : ℕ) (out : List A) (s : TernarySampler) {p : Plan} (e : p ≡ planOf s)
-    {a : Answer} (d : a ≡ answerOf (p .reads) (length words) place (length out)) where
+    {a : Answer} (d : a ≡ answerOf 0 (p .reads) (length words) place (length out)) where
   abbrev n : ℕ
   n = length out
 
   pub plan-enough : a .number ≡ 0 → p .reads ≡ true → place + 2 * n ≤ length words
-  plan-enough z r = answer-enough (length words) place n (rw r at d) z
+  plan-enough z r = answer-enough 0 (length words) place n (rw r at d) z
 
   module _ {final : List A} where
     pub plan-cleared : a .number ≡ 23 → final ≡ replicate n (f (pos 0)) → outcome a final ≡ ruleDraw (map f) 0 (samplerRule s n) words place out
-    plan-cleared = draw-cleared (map f) f (λ cs. refl) words place out (valueOf (p .constant)) (samplerValue s) _ _ (sampler-plan s n e) a d final
+    plan-cleared = draw-cleared (map f) f (λ cs. refl) 0 (lit< tt) words place out (valueOf (p .constant)) (samplerValue s) _ _ (sampler-plan s n e) a d final
 
     pub plan-refused : (a .number ≡ 23 → ⊥) → (a .number ≡ 0 → ⊥) → final ≡ out → outcome a final ≡ ruleDraw (map f) 0 (samplerRule s n) words place out
-    plan-refused = draw-refused (map f) f (λ cs. refl) words place out (valueOf (p .constant)) (samplerValue s) _ _ (sampler-plan s n e) a d final
+    plan-refused = draw-refused (map f) f (λ cs. refl) 0 (lit< tt) words place out (valueOf (p .constant)) (samplerValue s) _ _ (sampler-plan s n e) a d final
 
     pub plan-constant : a .number ≡ 0 → p .reads ≡ false → final ≡ replicate n (f (valueOf (p .constant)))
         → outcome a final ≡ ruleDraw (map f) 0 (samplerRule s n) words place out
-    plan-constant = draw-constant (map f) f (λ cs. refl) words place out (valueOf (p .constant)) (samplerValue s) _ _ (sampler-plan s n e) a d final
+    plan-constant = draw-constant (map f) f (λ cs. refl) 0 (lit< tt) words place out (valueOf (p .constant)) (samplerValue s) _ _ (sampler-plan s n e) a d final
 
     -- by the loop over a table of the values
     pub plan-read : a .number ≡ 0 → p .reads ≡ true → ((i : ℕ) → getD words i 0 < 2 ^ 32)
@@ -100,5 +100,5 @@ module _ {A : Type 0} (f : ℤ → A) (words : List ℕ) (place : ℕ) (out : Li
         → pickedRead (f (pos 0)) (m ∷ y ∷ z ∷ []) (p .«first_end») (p .«second_end») n (drop place words) ≡ got final (drop (place + 2 * n) words)
         → outcome a final ≡ ruleDraw (map f) 0 (samplerRule s n) words place out
     plan-read k r bounded {m} {y} {z} g h i =
-        draw-read (map f) f (λ cs. refl) words place out (valueOf (p .constant)) (samplerValue s) _ _ (sampler-plan s n e) a d final k r bounded
+        draw-read (map f) f (λ cs. refl) 0 (lit< tt) words place out (valueOf (p .constant)) (samplerValue s) _ _ (sampler-plan s n e) a d final k r bounded
         (picked (f (pos 0)) (m ∷ y ∷ z ∷ []) (p .«first_end») (p .«second_end»)) (plan-pick f s m y z e r g h i)

@@ -1,4 +1,4 @@
--- One 64-bit word an element: what a loop has written after each turn, and what it has read at the end, over any element type.
+-- The place that two ends give in a table of three.
 use mathlib.Core.Bool.{Bool, true, false}
 use Prim.Native.Nat.{ℕ, _+_, _<_}
 use lib.Dec.{leb, lit<}

@@ -1,7 +1,7 @@
--- One 64-bit word an element, the element taken from a table by two ends, or 1 or 0 by one end: what the loops of this crate do.
+-- One 64-bit word an element, the element taken from a table by two ends: what the loops of this crate do.
 use Prim.Native.Nat.{ℕ, _+_}
 use mathlib.Core.List.{List}
-use lib.Dec.{leb, ltb}
+use lib.Dec.{leb}
 use mir.Val.{boolByte}
 use lib.ListN.{getD}
 use Rattle.distr.specs.Words.{Read}
@@ -18,7 +18,3 @@ picked zero values first second w = getD values (slotOf first second w) zero
 -- n elements, each by a 64-bit word.
 abbrev pub pickedRead : {A : Type 0} → A → List A → ℕ → ℕ → ℕ → List ℕ → Read (List A)
 pickedRead zero values first second = wideRead (picked zero values first second)
-
--- 1 for a word below an end, else 0.
-unfoldable pub oneBelow : ℕ → ℕ → ℕ
-oneBelow end w = boolByte (ltb w end)

@@ -1,5 +1,3 @@
-// `Binary` and `Ternary`: coefficients by the thresholds of 64-bit words.
-mod below;
-pub mod binary;
+// `Ternary`: coefficients by two thresholds of 64-bit words.
 mod ends;
 pub mod ternary;

@@ -132,7 +132,7 @@ impl TernarySampler {
             ruleDraw (map (signedWith «minus_one»)) 0 (samplerRule self (length (now (output .entry)))) (now (words .entry)) place (now (output .entry)) ⌝ }
     {
         let plan = plan_of(self);
-        let answer = wide_words::answer_of(plan.reads, words.len(), place, output.len());
+        let answer = wide_words::answer_of(0, plan.reads, words.len(), place, output.len());
         if answer.number == 23 {
             fill::clear_i64(output);
             return answer;
@@ -164,7 +164,7 @@ impl TernarySampler {
             ruleDraw (map (encodeWith «minus_one»)) 0 (samplerRule self (length (now (output .entry)))) (now (words .entry)) place (now (output .entry)) ⌝ }
     {
         let plan = plan_of(self);
-        let answer = wide_words::answer_of(plan.reads, words.len(), place, output.len());
+        let answer = wide_words::answer_of(0, plan.reads, words.len(), place, output.len());
         if answer.number == 23 {
             fill::clear_u64(output);
             return answer;

@@ -17,9 +17,9 @@ use Rattle.distr.specs.Draw.{Outcome, outcome, ruleDraw}
 use Rattle.distr.proofs.Reading.{wides, many-wide}
 use Rattle.distr.proofs.Writing.{map-map, map-replicate}
 use Rattle.distr.proofs.Drawing.{rule-got, rule-short}
-use Rattle.words.proofs.Refusing.{earlyNumber, early-passed, rule-refused}
+use Rattle.numbers.proofs.Refusing.{drawNumber, number-passed, rule-refused}
 use Rattle.wide_words.specs.Answering.{wideRead, wideRule, numberOf, answerBy, answerOf}
-use Rattle.wide_words.proofs.Numbers.{by, early-low, number-by, answer-enough}
+use Rattle.wide_words.proofs.Numbers.{by, draw-low, number-by, answer-enough}
 
 -- words below 2^32 make 64-bit words, on which two values may agree alone
 map-wides : {A : Type 0} (f g : ℕ → A) → ((w : ℕ) → w < 2 ^ 64 → f w ≡ g w)
@@ -39,9 +39,10 @@ read-lacking : {A : Type 0} (value : ℕ → A) (n : ℕ) (ws : List ℕ) → le
 unfolding mapRead
 read-lacking value n ws h = rw (many-wide n ws, lt-leb (2 * n) (length ws) h)
 
--- coefficients are written one by one, by f: by a word each where the draw reads, else one value throughout
-module _ {A : Type 0} (write : List ℤ → List A) (f : ℤ → A) (each : (cs : List ℤ) → write cs ≡ map f cs) (words : List ℕ) (place : ℕ) (out : List A)
-    (v : ℤ) (value : ℕ → ℤ) where
+-- coefficients are written one by one, by f: by a word each where the draw reads, else one value throughout; the draw's own number is
+-- none that clears the output
+module _ {A : Type 0} (write : List ℤ → List A) (f : ℤ → A) (each : (cs : List ℤ) → write cs ≡ map f cs) (own : ℕ) (low : own < 23)
+    (words : List ℕ) (place : ℕ) (out : List A) (v : ℤ) (value : ℕ → ℤ) where
   abbrev n : ℕ
   n = length out
 
@@ -57,59 +58,59 @@ module _ {A : Type 0} (write : List ℤ → List A) (f : ℤ → A) (each : (cs 
   throughout : (x : ℤ) → write (replicate n x) ≡ replicate n (f x)
   throughout x = each (replicate n x) ∙ map-replicate f n x
 
-  draw-by : (reads : Bool) → ruleDraw write 0 (wideRule reads v value n) words place out ≡ answered reads (numberOf reads (length words) place n)
+  draw-by : (reads : Bool) → ruleDraw write own (wideRule reads v value n) words place out ≡ answered reads (numberOf own reads (length words) place n)
   unfolding firstOf mapRead
   draw-by reads =
-      go reads (earlyNumber (length words) place n) (reads && ltb (length words - place) (2 * n)) refl refl
-      ∙ ap (answered reads) (number-by reads (length words) place n _ _ refl refl)
+      go reads (drawNumber (length words) place n own) (reads && ltb (length words - place) (2 * n)) refl refl
+      ∙ ap (answered reads) (number-by own reads (length words) place n _ _ refl refl)
     where
-      go : (r : Bool) (early : ℕ) (lacking : Bool) → early ≡ earlyNumber (length words) place n → (r && ltb (length words - place) (2 * n)) ≡ lacking
-          → ruleDraw write 0 (wideRule r v value n) words place out ≡ answered r (by early lacking)
-      go r (suc early) lacking e h =
+      go : (r : Bool) (k : ℕ) (lacking : Bool) → k ≡ drawNumber (length words) place n own → (r && ltb (length words - place) (2 * n)) ≡ lacking
+          → ruleDraw write own (wideRule r v value n) words place out ≡ answered r (by k lacking)
+      go r (suc k) lacking e h =
           rw (
-            ne-eqb (suc early) 0 (λ q. omega arith),
-            ne-eqb (suc early) 23 (λ q. omega (arith, early-low (length words) place n)),
+            ne-eqb (suc k) 0 (λ q. omega arith),
+            ne-eqb (suc k) 23 (λ q. omega (arith, draw-low (length words) place n own low)),
           )
-          (sym (rule-refused write 0 (wideRule r v value n) words place out e (λ q. omega arith)))
+          (sym (rule-refused write own words place out e (wideRule r v value n) (λ q. omega arith)))
       go false zero true e h = absurd (true≢false (sym h))
       go false zero false e h =
-          let good = early-passed (length words) place n e refl in
-          let left : length words - length ws ≡ place = simp length-drop (omega arith) in
-          rule-got write 0 (constant v n) words place out (good .0) (good .1) refl (replicate n v) ws refl ∙ rw (left, throughout v)
+          let good = number-passed (length words) place n own e refl in
+          let left : length words - length ws ≡ place = simp length-drop (omega (arith, good .0)) in
+          rule-got write own (constant v n) words place out (good .0) (good .1) (good .2) (replicate n v) ws refl ∙ rw (left, throughout v)
       go true zero true e h =
-          let good = early-passed (length words) place n e refl in
+          let good = number-passed (length words) place n own e refl in
           let lacks : length words - place < 2 * n = ltb-true (length words - place) (2 * n) h in
-          rule-short write 0 (wideWords n value) words place out (good .0) (good .1) refl
+          rule-short write own (wideWords n value) words place out (good .0) (good .1) (good .2)
           (read-lacking value n ws (simp length-drop lacks))
           ∙ rw (throughout (pos 0))
       go true zero false e h =
-          let good = early-passed (length words) place n e refl in
+          let good = number-passed (length words) place n own e refl in
           let there : 2 * n ≤ length words - place = ltb-false (length words - place) (2 * n) h in
-          let left : length words - length (drop (2 * n) ws) ≡ place + 2 * n = simp length-drop (omega arith) in
-          rule-got write 0 (wideWords n value) words place out (good .0) (good .1) refl _ _ (read-there value n ws (simp length-drop there))
+          let left : length words - length (drop (2 * n) ws) ≡ place + 2 * n = simp length-drop (omega (arith, good .0)) in
+          rule-got write own (wideWords n value) words place out (good .0) (good .1) (good .2) _ _ (read-there value n ws (simp length-drop there))
           ∙ rw (left, each (map value (wides n ws)), map-map f value (wides n ws))
 
   -- a rule of this kind, the answer a, and what the output holds then
-  module _ (rule : Rule) (reads : Bool) (kind : rule ≡ wideRule reads v value n) (a : Answer) (e : a ≡ answerOf reads (length words) place n)
+  module _ (rule : Rule) (reads : Bool) (kind : rule ≡ wideRule reads v value n) (a : Answer) (e : a ≡ answerOf own reads (length words) place n)
       (final : List A) where
-    by-answer : final ≡ answered reads (a .number) .output → outcome a final ≡ ruleDraw write 0 rule words place out
+    by-answer : final ≡ answered reads (a .number) .output → outcome a final ≡ ruleDraw write own rule words place out
     by-answer q = rw (kind, e, q, e) (sym (draw-by reads))
 
-    pub draw-cleared : a .number ≡ 23 → final ≡ replicate n (f (pos 0)) → outcome a final ≡ ruleDraw write 0 rule words place out
+    pub draw-cleared : a .number ≡ 23 → final ≡ replicate n (f (pos 0)) → outcome a final ≡ ruleDraw write own rule words place out
     draw-cleared z q = by-answer (rw z q)
 
-    pub draw-refused : (a .number ≡ 23 → ⊥) → (a .number ≡ 0 → ⊥) → final ≡ out → outcome a final ≡ ruleDraw write 0 rule words place out
+    pub draw-refused : (a .number ≡ 23 → ⊥) → (a .number ≡ 0 → ⊥) → final ≡ out → outcome a final ≡ ruleDraw write own rule words place out
     draw-refused y z q = by-answer (rw (ne-eqb (a .number) 0 z, ne-eqb (a .number) 23 y) q)
 
-    pub draw-constant : a .number ≡ 0 → reads ≡ false → final ≡ replicate n (f v) → outcome a final ≡ ruleDraw write 0 rule words place out
+    pub draw-constant : a .number ≡ 0 → reads ≡ false → final ≡ replicate n (f v) → outcome a final ≡ ruleDraw write own rule words place out
     draw-constant z r q = by-answer (rw (z, r) q)
 
     -- by a loop that picks f of the value by each word
     pub draw-read : a .number ≡ 0 → reads ≡ true → ((i : ℕ) → getD words i 0 < 2 ^ 32)
         → (pick : ℕ → A) → ((w : ℕ) → w < 2 ^ 64 → pick w ≡ f (value w))
-        → wideRead pick n ws ≡ got final (drop (place + 2 * n) words) → outcome a final ≡ ruleDraw write 0 rule words place out
+        → wideRead pick n ws ≡ got final (drop (place + 2 * n) words) → outcome a final ≡ ruleDraw write own rule words place out
     draw-read z r bounded pick same p =
-        let enough : place + 2 * n ≤ length words = answer-enough (length words) place n (rw r at e) z in
+        let enough : place + 2 * n ≤ length words = answer-enough own (length words) place n (rw r at e) z in
         let there : got (map pick (wides n ws)) (drop (2 * n) ws) ≡ got final (drop (place + 2 * n) words) =
         sym (read-there pick n ws (simp length-drop (omega arith))) ∙ p in
         let all : final ≡ map pick (wides n ws) = cc in

@@ -18,14 +18,15 @@ wideRead value n ws = mapRead (map value) (many wide n ws)
 abbrev pub wideRule : Bool → ℤ → (ℕ → ℤ) → ℕ → Rule
 wideRule reads v value n = cond reads (wideWords n value) (constant v n)
 
--- The number of a draw of n coefficients from a place of `count` words: 22 or 6, then 23 where it reads and the words are not there.
-unfoldable pub numberOf : Bool → ℕ → ℕ → ℕ → ℕ
-numberOf reads count place n =
-    firstOf (firstOf (pastEnd count place ∷ tooLong n ∷ 0 ∷ []) ∷ refuse (reads && ltb (count - place) (2 * n)) 23 ∷ [])
+-- The number of a draw of n coefficients from a place of `count` words: 22, 6, the draw's own, then 23 where it reads and the words are
+-- not there.
+unfoldable pub numberOf : ℕ → Bool → ℕ → ℕ → ℕ → ℕ
+numberOf own reads count place n =
+    firstOf (pastEnd count place ∷ tooLong n ∷ own ∷ refuse (reads && ltb (count - place) (2 * n)) 23 ∷ [])
 
 -- The answer with a number: the place moves where words were read.
 abbrev pub answerBy : Bool → ℕ → ℕ → ℕ → Answer
 answerBy reads place n number = record { number = number; place = cond (eqb number 0 && reads) (place + 2 * n) place }
 
-abbrev pub answerOf : Bool → ℕ → ℕ → ℕ → Answer
-answerOf reads count place n = answerBy reads place n (numberOf reads count place n)
+abbrev pub answerOf : ℕ → Bool → ℕ → ℕ → ℕ → Answer
+answerOf own reads count place n = answerBy reads place n (numberOf own reads count place n)

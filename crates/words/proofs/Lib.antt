@@ -1,4 +1,3 @@
 pub mod Places
 pub mod Runs
 pub mod Taking
-pub mod Refusing

@@ -6,7 +6,7 @@ use native.Mathlib.Omega.{arith}
 use lib.ListN.{length, drop, length-drop}
 use lib.Seq.{drop-drop}
 use Rattle.distr.specs.Words.{Read, got, short, word, wide, choose}
-use Rattle.distr.proofs.Reading.{chose}
+use Rattle.distr.proofs.Reading.{short-not-got, chose}
 use Rattle.words.specs.declared.Taken.the-variants.{Got, Short}
 use Rattle.words.specs.Reading.{taken}
 use Rattle.words.proofs.Places.{place-of}
@@ -28,13 +28,13 @@ Passes xs rest = (m : ℕ) × (0 < m) × (m ≤ length xs) × (rest ≡ drop m x
 
 word-passes : (v : ℕ) (xs rest : List ℕ) → word xs ≡ got v rest → Passes xs rest
 unfolding word
-word-passes v [] rest e = let no : short ≡ got v rest = e in let z : _≡_ {A = ℕ} 0 1 = cc in absurd (omega arith)
+word-passes v [] rest e = absurd (short-not-got e)
 word-passes v (x ∷ xs) rest e = let same : got x xs ≡ got v rest = e in (1, omega arith, omega arith, cc)
 
 wide-passes : (v : ℕ) (xs rest : List ℕ) → wide xs ≡ got v rest → Passes xs rest
 unfolding wide
-wide-passes v [] rest e = let no : short ≡ got v rest = e in let z : _≡_ {A = ℕ} 0 1 = cc in absurd (omega arith)
-wide-passes v (x ∷ []) rest e = let no : short ≡ got v rest = e in let z : _≡_ {A = ℕ} 0 1 = cc in absurd (omega arith)
+wide-passes v [] rest e = absurd (short-not-got e)
+wide-passes v (x ∷ []) rest e = absurd (short-not-got e)
 wide-passes v (x ∷ y ∷ xs) rest e = let same : got (x + y * 2 ^ 32) xs ≡ got v rest = e in (2, omega arith, omega arith, cc)
 
 choice-passes : (k v : ℕ) (xs rest : List ℕ) → choose k xs ≡ got v rest → Passes xs rest

@@ -1,11 +1,9 @@
 // Lent words in place of a random source: each function reads from a place of the words and hands back the value with the place after it.
 use distr::threshold::Threshold;
 ghost use mathlib.Core.Path.{_≡_};
-ghost use mathlib.Core.List.{[], _∷_};
 ghost use Prim.Native.Nat.{_%_, _<_};
 ghost use lib.ListN.{length, drop};
 ghost use Rattle.distr.specs.Words.{word, wide, choose, coin, chance};
-ghost use Rattle.distr.specs.Numbers.{firstOf, pastEnd, tooLong};
 ghost use Rattle.words.specs.Reading.{taken, told, thresholdValue};
 
 // A value and the place after the words that gave it.
@@ -131,17 +129,4 @@ pub fn bernoulli(words: &[u32], place: usize, threshold: Threshold) -> Told
         }
         Taken::Short => Told::Short,
     }
-}
-
-// What refuses a draw of n coefficients from `place` in `count` words before it looks at any: 22 past the end of the words, 6 too long, 0 good.
-pub fn early_number(count: usize, place: usize, n: usize) -> u32
-    ensures { λ r. ⌜ r ≡ firstOf (pastEnd count place ∷ tooLong n ∷ 0 ∷ []) ⌝ }
-{
-    if count < place {
-        return 22;
-    }
-    if 65536 < n {
-        return 6;
-    }
-    0
 }

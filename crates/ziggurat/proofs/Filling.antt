@@ -7,12 +7,10 @@ use Prim.Native.Nat.{ℕ, suc, _+_, _-_, _<_, _≤_}
 use native.Mathlib.Nat.{le-refl, sub-zero}
 use native.Mathlib.Numerals.{add-one}
 use native.Mathlib.Omega.{arith}
-use lib.ListN.{length, take, drop, set, replicate, length-set}
+use lib.ListN.{length, take, drop, set, length-set}
 use lib.Seq.{take-set-le, take-suc-set, take-all, append-snoc}
-use lib.IntN.{ℤ, pos}
+use lib.IntN.{ℤ}
 use Rattle.distr.specs.Words.{Read, got, short, mapRead, bindRead, many}
-use Rattle.distr.specs.Draw.{settled}
-use Rattle.distr.proofs.Writing.{map-replicate}
 
 module _ {A : Type 0} (put : ℤ → A) (one : List ℕ → Read ℤ) (words : List ℕ) (place : ℕ) (out₀ : List A) where
   -- what the output is to hold, with the words left then
@@ -74,27 +72,3 @@ module _ {A : Type 0} (put : ℤ → A) (one : List ℕ → Read ℤ) (words : L
   filled-all i at out k f =
       let none : length out₀ - i ≡ 0 = omega arith in
       sym (rw none at (f .same)) ∙ ap (λ (l : List A). got l (drop at words)) (append-nil (take i out) ∙ take-all i out (omega (arith, f .sized)))
-
--- what a reading gives is settled: drawn, or short of words
-module _ {A : Type 0} (write : List ℤ → List A) (put : ℤ → A) (writes : (cs : List ℤ) → write cs ≡ map put cs) (count place n : ℕ) where
-  pub settled-got : (r : Read (List ℤ)) (out : List A) (rest : List ℕ) (at : ℕ) → count - length rest ≡ at → mapRead (map put) r ≡ got out rest
-      → record { number = 0; place = at; output = out } ≡ settled write count place n r
-  unfolding settled mapRead
-  settled-got (got cs left) out rest at p e =
-      let same : got (map put cs) left ≡ got out rest = e in
-      let outs : map put cs ≡ out = cc in
-      let rests : left ≡ rest = cc in
-      rw (← p, ← outs, ← rests, writes cs)
-  settled-got short out rest at p e =
-      let no : short ≡ got out rest = e in
-      let z : _≡_ {A = ℕ} 0 1 = cc in
-      absurd (omega arith)
-
-  pub settled-short : (r : Read (List ℤ)) (out : List A) → mapRead (map put) r ≡ short → out ≡ replicate n (put (pos 0))
-      → record { number = 23; place = place; output = out } ≡ settled write count place n r
-  unfolding settled mapRead
-  settled-short (got cs left) out e z =
-      let no : got (map put cs) left ≡ short = e in
-      let zo : _≡_ {A = ℕ} 0 1 = cc in
-      absurd (omega arith)
-  settled-short short out e z = rw (z, writes (replicate n (pos 0)), map-replicate put n (pos 0))

@@ -1,6 +1,5 @@
-pub mod Judging
+-- The laws of the tables that passed their test, of a try by them, and of the filling loops.
 pub mod Floats
-pub mod Accepting
 pub mod LayerTables
 pub mod Trying
 pub mod Proposing

@@ -17,6 +17,9 @@ use Rattle.distr.specs.Layered.{Layers, layerTables, zeroThreshold, judge, laye
 use Rattle.distr.specs.Draw.{Outcome, settled}
 use Rattle.distr.specs.declared.gaussian_parameters.GaussianParameters.{GaussianParameters}
 use Rattle.distr.specs.declared.threshold.Threshold.{Threshold}
+use Rattle.distr.proofs.Reading.{map-read-same}
+use Rattle.distr.proofs.Writing.{map-replicate}
+use Rattle.distr.proofs.Drawing.{settled-got, settled-short}
 use Rattle.words.specs.Reading.{thresholdValue}
 use Rattle.words.proofs.Places.{place-of}
 use Rattle.ziggurat.specs.declared.sampling.Trial.{Trial}
@@ -25,7 +28,7 @@ use Rattle.ziggurat.specs.declared.sampling.Attempted.the-variants.{Got,
 use Rattle.ziggurat.specs.Tables.{layerSizes}
 use Rattle.ziggurat.specs.Sampling.{OnTables, judgeEdge, edgeWords, Ready, Lacks, unproposed, unjudged, Attempts}
 use Rattle.ziggurat.proofs.LayerTables.{sizes}
-use Rattle.ziggurat.proofs.Filling.{Filled, filled-turn, filled-short, filled-all, settled-got, settled-short}
+use Rattle.ziggurat.proofs.Filling.{Filled, filled-turn, filled-short, filled-all}
 use Rattle.ziggurat.proofs.Passing.{on-tables, judge-sides, edge-lacks}
 use Rattle.ziggurat.proofs.Trying.{none-proposed, none-judged, one-judged}
 
@@ -77,8 +80,8 @@ module _ {A : Type 0} (g : Given A) where
   -- the loop ends where the output is full
   pub full : (i at : ℕ) (out : List A) → Held i at out → length (g .output) ≤ i → record { number = 0; place = at; output = out } ≡ settles
   full i at out held h =
-      settled-got (g .write) (g .put) (g .each) (length (g .words)) (g .place) (length (g .output)) _ out (drop at (g .words)) at
-      (place-of (g .words) at (held .within)) (filled-all (g .put) one (g .words) (g .place) (g .output) i at out h held)
+      settled-got (g .write) (length (g .words)) (g .place) (length (g .output)) out _ (drop at (g .words)) (place-of (g .words) at (held .within))
+      (map-read-same (g .write) (map (g .put)) (g .each) _ ∙ filled-all (g .put) one (g .words) (g .place) (g .output) i at out h held)
 
   -- a turn: an attempt at a place of the output that is not filled yet
   pub record Turn : Type 0 where
@@ -123,9 +126,11 @@ module _ {A : Type 0} {g : Given A} (t : Turn g) where
   pub cut : t .told ≡ Short → (cleared : List A) → cleared ≡ replicate (length (t .out)) (g .put (pos 0))
       → record { number = 23; place = g .place; output = cleared } ≡ settles g
   cut e cleared z =
-      settled-short (g .write) (g .put) (g .each) (length (g .words)) (g .place) (length (g .output)) _ cleared
-      (filled-short (g .put) (one g) (g .words) (g .place) (g .output) (t .i) (t .at) (t .out) (t .more) (t .held) (lacking (rw e at (t .attempts))))
-      (z ∙ ap (λ (n : ℕ). replicate n (g .put (pos 0))) (t .held .sized))
+      settled-short (g .write) (length (g .words)) (g .place) (length (g .output)) cleared _
+      (map-read-same (g .write) (map (g .put)) (g .each) _
+      ∙ filled-short (g .put) (one g) (g .words) (g .place) (g .output) (t .i) (t .at) (t .out) (t .more) (t .held) (lacking (rw e at (t .attempts))))
+      (z ∙ ap (λ (n : ℕ). replicate n (g .put (pos 0))) (t .held .sized)
+      ∙ sym (g .each (replicate (length (g .output)) (pos 0)) ∙ map-replicate (g .put) (length (g .output)) (pos 0)))
 
   module _ {tried : Trial} {inside : Bool} {after : ℕ} (begun : t .told ≡ Got tried inside after) where
     ready : Ready (g .layers .endpoints) (g .threshold) (g .words) (t .at) tried inside after

@@ -1,4 +1,3 @@
 -- What the layered draw's functions hand back, in the words of document 01's definitions.
 pub mod Tables
-pub mod Fringe
 pub mod Sampling

@@ -1,6 +1,5 @@
-// The layered Gaussian: its lent tables and the draws by them.
+// The layered Gaussian: the draws by its lent tables.
 pub mod encoded;
-mod fringe;
+mod layer;
 mod sampling;
 pub mod signed;
-pub mod tables;

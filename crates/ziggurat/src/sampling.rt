@@ -1,5 +1,5 @@
 // A try, as in `sample`: a proposal and its judging. Nothing here knows the type of the output.
-use crate::fringe;
+use crate::layer;
 use distr::threshold::Threshold;
 use words::Taken;
 ghost use mathlib.Core.Path.{_≡_};
@@ -125,7 +125,7 @@ pub(crate) fn passes_edge(
         }
         return words[place] as u64 + words[place + 1] as u64 * 0x1_0000_0000 < zero.below;
     }
-    let here = fringe::layer_at(endpoints, heights, layer);
+    let here = layer::layer_at(endpoints, heights, layer);
     let pdf = curve[magnitude as usize];
     fringe::accepts(deviation, here, magnitude, pdf, words[place])
 }

@@ -1,11 +1,11 @@
 // The layered draw of signed coefficients.
 use crate::sampling;
 use crate::sampling::Attempted;
-use crate::tables;
 use distr::answer::Answer;
 use distr::gaussian_parameters::GaussianParameters;
 use distr::threshold::Threshold;
 use gaussian_core::encode;
+use layer_tables::layer_number;
 ghost use mathlib.Core.Path.{_≡_};
 ghost use Prim.Native.Nat.{_≤_};
 ghost use lib.Dec.{T};
@@ -83,12 +83,10 @@ pub fn sample_ziggurat_to_i64(
     ensures { λ r. ⌜ outcome r (now (output .exit)) ≡ layeredDraw (λ cs. cs) parameters
         (tables (now (endpoints .entry)) (now (heights .entry)) (now (curve .entry))) (now (words .entry)) place (now (output .entry)) ⌝ }
 {
-    let number = words::early_number(words.len(), place, output.len());
+    let own = layer_number(parameters.maximum_magnitude, endpoints, heights, curve);
+    let number = numbers::draw_number(words.len(), place, output.len(), own);
     if number != 0 {
         return Answer { number, place };
-    }
-    if !tables::layer_tables_ok(parameters.maximum_magnitude, endpoints, heights, curve) {
-        return Answer { number: 13, place };
     }
     let zero = sampling::zero_threshold(parameters.maximum_magnitude, endpoints, heights, curve);
     fill_i64(

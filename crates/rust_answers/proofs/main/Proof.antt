@@ -5,25 +5,25 @@ use Rattle.rust_answers.proofs.main.Statement.{statement}
 use Rattle.rust_answers.proofs.main.Tie as tie
 
 abbrev Inv-loop : tie.InvT-loop
-Inv-loop count answers₀ agree₀ i₀ t6 answers agree i = Unit {0}
+Inv-loop count total₀ i₀ t4 total i = Unit {0}
 
 abbrev μ-loop : tie.MeasureT-loop
-μ-loop count answers₀ agree₀ i₀ t6 answers agree i = count - i
+μ-loop count total₀ i₀ t4 total i = count - i
 
 arg-count-requires : tie.Need-arg-count-requires Inv-loop μ-loop
 arg-count-requires c κs = search needs
 
+empty-requires : tie.Need-empty-requires Inv-loop μ-loop
+empty-requires c κs = search needs
+
 loop-holds : tie.Need-loop-holds Inv-loop μ-loop
 loop-holds c = search needs
 
-answer-file-requires : tie.Need-answer-file-requires Inv-loop μ-loop
-answer-file-requires c κs = search needs
+judge-argument-requires : tie.Need-judge-argument-requires Inv-loop μ-loop
+judge-argument-requires c κs = search needs
 
-wrapping-add-u64-requires : tie.Need-wrapping-add-u64-requires Inv-loop μ-loop
-wrapping-add-u64-requires c κs = search needs
-
-wrapping-add-u64-requires-2 : tie.Need-wrapping-add-u64-requires-2 Inv-loop μ-loop
-wrapping-add-u64-requires-2 c κs = search needs
+joined-requires : tie.Need-joined-requires Inv-loop μ-loop
+joined-requires c κs = search needs
 
 add-i : tie.Need-add-i Inv-loop μ-loop
 add-i c = search needs
@@ -50,10 +50,10 @@ main-spec =
     Inv-loop
     μ-loop
     arg-count-requires
+    empty-requires
     loop-holds
-    answer-file-requires
-    wrapping-add-u64-requires
-    wrapping-add-u64-requires-2
+    judge-argument-requires
+    joined-requires
     add-i
     loop-less
     loop-again

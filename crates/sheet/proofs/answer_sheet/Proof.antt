@@ -2,7 +2,7 @@
 use mathlib.Core.Path.{sym, _∙_}
 use native.Mathlib.Omega.{arith}
 use Rattle.sheet.proofs.WellFormed.{well-formed}
-use Rattle.sheet.proofs.Requests.{prefix-length, good-read, malformed-text, sheet-text, written-same, answered-long, answered-short}
+use Rattle.sheet.proofs.Answers.{prefix-length, good-read, malformed-text, sheet-text, written-same, answered-long, answered-short}
 use borrow.Author.Needs.{needs}
 use Rattle.sheet.proofs.answer_sheet.Statement.{statement}
 use Rattle.sheet.proofs.answer_sheet.Tie as tie

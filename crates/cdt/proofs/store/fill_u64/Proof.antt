@@ -1,5 +1,5 @@
 -- `fill_u64` writes what the 64-bit words give. The loop's invariant: the first i elements are written, by the words up to `at`.
-use mathlib.Core.Path.{_≡_, refl, ap, _∙_}
+use mathlib.Core.Path.{_≡_, refl}
 use Prim.Native.Nat.{ℕ, _+_, _*_, _-_, _≤_}
 use native.Mathlib.Omega.{arith}
 use lib.ListN.{length, length-set}
@@ -71,7 +71,7 @@ loop-again c =
       rw (turn .inv .3)
           (pick-more (λ (w : ℕ). encodeWith (start .args .minus-one) (cumulativeValue (start .args .top) (start .args .bounds .now) w))
           (start .args .words .now) (start .args .place) (start .args .output .now) (turn .i) (turn .at) _ (omega arith) (turn .inv .1)
-          (c .encode-modular .ensures ∙ ap (encodeWith (start .args .minus-one)) (c .before .sample-magnitude .ensures .1))),
+          (rw (c .before .sample-magnitude .ensures .1) at (c .encode-modular .ensures))),
     )
 
 same-length : tie.Need-same-length Inv-loop μ-loop

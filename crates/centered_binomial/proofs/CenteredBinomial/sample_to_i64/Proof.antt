@@ -1,6 +1,7 @@
 -- A signed draw: the sampler and the answer, then the loop that writes or the one that clears.
 use mathlib.Core.Path.{_≡_, refl, sym, _∙_}
 use mathlib.Core.Bool.{true}
+use lib.Dec.{lit<}
 use lib.IntN.{pos}
 use borrow.Author.Needs.{needs}
 use borrow.Author.Tests.{not-true, not-false}
@@ -30,7 +31,7 @@ fill-i64-requires : tie.Need-fill-i64-requires
 fill-i64-requires c κs = record {
   small = made-small _ (made (c .before .before .before .before));
   masked = made-mask _ (made (c .before .before .before .before));
-  enough = answer-enough _ _ _ (c .before .before .before .answer-of .ensures) (c .before .if2 .taken);
+  enough = answer-enough _ _ _ _ (c .before .before .before .answer-of .ensures) (c .before .if2 .taken);
 }
 
 same-length : tie.Need-same-length
@@ -40,7 +41,7 @@ returns-2 : tie.Need-returns-2
 returns-2 c =
     let a = c .before .before .before .before .before .before .before .before .before .args in
     rw (made (c .before .before .before .before .before .before))
-    (draw-read (λ cs. cs) (λ x. x) (λ cs. sym (map-id cs)) (a .words .now) (a .place) (a .output .now) (pos 0) (binomialValue (a .self .eta)) _ true refl _
+    (draw-read (λ cs. cs) (λ x. x) (λ cs. sym (map-id cs)) 0 (lit< tt) (a .words .now) (a .place) (a .output .now) (pos 0) (binomialValue (a .self .eta)) _ true refl _
     (c .before .before .before .before .before .answer-of .ensures) _ (c .before .before .before .if2 .taken) refl
     (λ i. c .before .before .before .before .before .before .before .before .shared-slice-known .given i .fits)
     (binomialValue (a .self .eta)) (λ w h. refl) (c .before .fill-i64 .ensures))
@@ -55,7 +56,7 @@ returns-3 : tie.Need-returns-3
 returns-3 c =
     let a = c .before .before .before .before .before .before .before .before .before .before .before .args in
     rw (made (c .before .before .before .before .before .before .before .before))
-    (draw-cleared (λ cs. cs) (λ x. x) (λ cs. sym (map-id cs)) (a .words .now) (a .place) (a .output .now) (pos 0) (binomialValue (a .self .eta)) _ true refl _
+    (draw-cleared (λ cs. cs) (λ x. x) (λ cs. sym (map-id cs)) 0 (lit< tt) (a .words .now) (a .place) (a .output .now) (pos 0) (binomialValue (a .self .eta)) _ true refl _
     (c .before .before .before .before .before .before .before .answer-of .ensures) _ (c .before .before .before .if3 .taken)
     (c .before .clear-i64 .ensures))
 
@@ -63,7 +64,7 @@ returns-4 : tie.Need-returns-4
 returns-4 c =
     let a = c .before .before .before .before .before .before .before .before .args in
     rw (made (c .before .before .before .before .before))
-    (draw-refused (λ cs. cs) (λ x. x) (λ cs. sym (map-id cs)) (a .words .now) (a .place) (a .output .now) (pos 0) (binomialValue (a .self .eta)) _ true refl _
+    (draw-refused (λ cs. cs) (λ x. x) (λ cs. sym (map-id cs)) 0 (lit< tt) (a .words .now) (a .place) (a .output .now) (pos 0) (binomialValue (a .self .eta)) _ true refl _
     (c .before .before .before .before .answer-of .ensures) _ (c .if3 .left) (c .before .before .if2 .left) refl)
 
 pub sample-to-i64-spec : {M : Type 1} → statement M

@@ -2,6 +2,7 @@
 use mathlib.Core.Path.{_≡_, refl, sym, _∙_}
 use mathlib.Core.Bool.{true}
 use mathlib.Core.List.{map}
+use lib.Dec.{lit<}
 use lib.IntN.{pos}
 use borrow.Author.Needs.{needs}
 use borrow.Author.Tests.{not-true, not-false}
@@ -31,7 +32,7 @@ fill-u64-requires : tie.Need-fill-u64-requires
 fill-u64-requires c κs = record {
   small = made-small _ (made (c .before .before .before .before));
   masked = made-mask _ (made (c .before .before .before .before));
-  enough = answer-enough _ _ _ (c .before .before .before .answer-of .ensures) (c .before .if2 .taken);
+  enough = answer-enough _ _ _ _ (c .before .before .before .answer-of .ensures) (c .before .if2 .taken);
 }
 
 same-length : tie.Need-same-length
@@ -42,7 +43,7 @@ returns-2 c =
     let a = c .before .before .before .before .before .before .before .before .before .before .before .args in
     let encode = encodeWith (a .minus-one) in
     rw (made (c .before .before .before .before .before .before .before))
-    (draw-read (map encode) encode (λ cs. refl) (a .words .now) (a .place) (a .output .now) (pos 0) (binomialValue (a .self .eta)) _ true refl _
+    (draw-read (map encode) encode (λ cs. refl) 0 (lit< tt) (a .words .now) (a .place) (a .output .now) (pos 0) (binomialValue (a .self .eta)) _ true refl _
     (c .before .before .before .before .before .before .answer-of .ensures) _ (c .before .before .before .before .if2 .taken) refl
     (λ i. c .before .before .before .before .before .before .before .before .before .shared-slice-known .given i .fits)
     (λ w. encode (binomialValue (a .self .eta) w)) (λ w h. refl) (c .before .before .fill-u64 .ensures))
@@ -58,7 +59,7 @@ returns-3 c =
     let a = c .before .before .before .before .before .before .before .before .before .before .before .before .before .args in
     let encode = encodeWith (a .minus-one) in
     rw (made (c .before .before .before .before .before .before .before .before .before))
-    (draw-cleared (map encode) encode (λ cs. refl) (a .words .now) (a .place) (a .output .now) (pos 0) (binomialValue (a .self .eta)) _ true refl _
+    (draw-cleared (map encode) encode (λ cs. refl) 0 (lit< tt) (a .words .now) (a .place) (a .output .now) (pos 0) (binomialValue (a .self .eta)) _ true refl _
     (c .before .before .before .before .before .before .before .before .answer-of .ensures) _ (c .before .before .before .before .if3 .taken)
     (c .before .before .clear-u64 .ensures))
 
@@ -67,7 +68,7 @@ returns-4 c =
     let a = c .before .before .before .before .before .before .before .before .before .args in
     let encode = encodeWith (a .minus-one) in
     rw (made (c .before .before .before .before .before))
-    (draw-refused (map encode) encode (λ cs. refl) (a .words .now) (a .place) (a .output .now) (pos 0) (binomialValue (a .self .eta)) _ true refl _
+    (draw-refused (map encode) encode (λ cs. refl) 0 (lit< tt) (a .words .now) (a .place) (a .output .now) (pos 0) (binomialValue (a .self .eta)) _ true refl _
     (c .before .before .before .before .answer-of .ensures) _ (c .if3 .left) (c .before .before .if2 .left) refl)
 
 pub sample-to-u64-spec : {M : Type 1} → statement M

@@ -1,11 +1,8 @@
--- `sample_crt_to` tries the numbers, draws the last row by its method's family and makes the rows from it.
-use mathlib.Core.Path.{sym, _∙_}
-use native.Mathlib.Omega.{arith}
-use Prim.Native.Nat.{_<_}
+-- `sample_crt_to` tries the numbers, draws the last row by its method and makes the rows from it.
 use lib.ListN.{length}
 use Rattle.error_sampler.specs.Sampler.{isMade}
 use Rattle.error_sampler.proofs.Held.{held-fits}
-use Rattle.error_sampler.proofs.CrtDraws.{Ready, crt-refused, crt-ready, crt-row-fits, crt-empty-drawn, crt-table-kept, crt-finished}
+use Rattle.error_sampler.proofs.CrtDraws.{Ready, crt-refused, crt-ready, crt-table-kept, crt-finished}
 use borrow.Author.Needs.{needs}
 use Rattle.error_sampler.proofs.ErrorSampler.sample_crt_to.Statement.{statement}
 use Rattle.error_sampler.proofs.ErrorSampler.sample_crt_to.Tie as tie
@@ -20,34 +17,16 @@ ready : (c : tie.Else1)
 ready c =
     let top = c .before .before .before .before .before .before .before .before .before in
     let a = top .args in
-    crt-ready (a .self) (held-fits (a .self) _ (top .good .0)) _ _ _ _ _ (sym (c .before .crt-draw-number .ensures) ∙ c .if1 .left)
-
--- an output that is not empty
-some : (c : tie.Else2) → 0 < length (c .before .before .before .before .before .before .before .before .before .before .args .output .now)
-some c = omega arith
+    crt-ready (a .self) (held-fits (a .self) _ (top .good .0)) _ _ _ _ _ (c .before .crt-draw-number .ensures) (c .if1 .left)
 
 returns : tie.Need-returns
 returns c =
     let top = c .before .before .before .before .before .before .before .before .before in
     let a = top .args in
-    rw (c .before .crt-draw-number .ensures)
-    (sym (crt-refused (a .self) (held-fits (a .self) _ (top .good .0)) _ _ _ _ _ _
-    (omega (arith, c .before .crt-draw-number .ensures, c .if1 .taken))))
+    crt-refused (a .self) (held-fits (a .self) _ (top .good .0)) _ _ _ _ _ _ (c .before .crt-draw-number .ensures) (c .if1 .taken)
 
-sample-residues-requires : tie.Need-sample-residues-requires
-sample-residues-requires c κs = search needs
-
-same-length : tie.Need-same-length
-same-length c = search needs
-
-returns-2 : tie.Need-returns-2
-returns-2 c =
-    let at = c .before .before .before .before .before in
-    c .before .before .sample-residues .ensures
-    ∙ crt-empty-drawn _ _ _ _ _ _ (ready at) (c .before .before .before .before .if2 .taken)
-
-sub-last : tie.Need-sub-last
-sub-last c = crt-row-fits (ready (c .before)) (some c)
+last-row-requires : tie.Need-last-row-requires
+last-row-requires c κs = search needs
 
 mul-sample-residues : tie.Need-mul-sample-residues
 mul-sample-residues c = search needs
@@ -61,30 +40,32 @@ part-sample-residues-start c = search needs
 part-sample-residues-end : tie.Need-part-sample-residues-end
 part-sample-residues-end c = search needs
 
-sample-residues-requires-2 : tie.Need-sample-residues-requires-2
-sample-residues-requires-2 c κs = search needs
+sample-residues-requires : tie.Need-sample-residues-requires
+sample-residues-requires c κs = search needs
+
+same-length : tie.Need-same-length
+same-length c = search needs
+
+returns-2 : tie.Need-returns-2
+returns-2 c =
+    let drawn = c .before .before .before .before .before in
+    let at = drawn .before .before in
+    crt-table-kept _ _ _ _ _ _ (ready (at .before)) _ (at .last-row .ensures) _ _ (c .before .before .before .before .output .given .0)
+    (drawn .sample-residues .ensures) (c .if2 .taken)
+
+finish-requires : tie.Need-finish-requires
+finish-requires c κs = search needs
 
 same-length-2 : tie.Need-same-length-2
 same-length-2 c = search needs
 
 returns-3 : tie.Need-returns-3
 returns-3 c =
-    let at = c .before .before .before .before .before .before .before in
-    crt-table-kept _ _ _ _ _ _ (ready (at .before)) (some at) _ _ (c .before .before .before .before .output2 .given .0)
-    (c .before .before .before .before .before .sample-residues2 .ensures) (c .if3 .taken)
-
-finish-requires : tie.Need-finish-requires
-finish-requires c κs = search needs
-
-same-length-3 : tie.Need-same-length-3
-same-length-3 c = search needs
-
-returns-4 : tie.Need-returns-4
-returns-4 c =
-    let at = c .before .before .before .before .before .before .before .before .before .before .before in
-    c .before .before .finish .ensures
-    ∙ crt-finished _ _ _ _ _ _ (ready (at .before)) (some at) _ _ (c .before .before .before .before .before .before .before .before .output2 .given .0)
-    (c .before .before .before .before .before .before .before .before .before .sample-residues2 .ensures) (c .before .before .before .before .if3 .left)
+    let told = c .before .before .before .before in
+    let drawn = told .before .before .before .before .before in
+    let at = drawn .before .before in
+    crt-finished _ _ _ _ _ _ (ready (at .before)) _ (at .last-row .ensures) _ _ (told .before .before .before .before .output .given .0)
+    (drawn .sample-residues .ensures) (told .if2 .left) (c .before .before .finish .ensures)
 
 pub sample-crt-to-spec : {M : Type 1} → statement M
 sample-crt-to-spec =
@@ -92,17 +73,14 @@ sample-crt-to-spec =
     (tie.spec
     crt-draw-number-requires
     returns
-    sample-residues-requires
-    same-length
-    returns-2
-    sub-last
+    last-row-requires
     mul-sample-residues
     sub-sample-residues
     part-sample-residues-start
     part-sample-residues-end
-    sample-residues-requires-2
-    same-length-2
-    returns-3
+    sample-residues-requires
+    same-length
+    returns-2
     finish-requires
-    same-length-3
-    returns-4)
+    same-length-2
+    returns-3)

@@ -1,5 +1,4 @@
 -- `sample_encoded_to` tries the numbers and draws residues by its method's family.
-use mathlib.Core.Path.{sym, _∙_}
 use native.Mathlib.Omega.{arith}
 use Rattle.error_sampler.proofs.Held.{held-fits}
 use Rattle.error_sampler.proofs.EncodedDraws.{encoded-refused, encoded-drawn, encoded-above}
@@ -14,12 +13,10 @@ returns : tie.Need-returns
 returns c =
     let top = c .before .before .before .before .before .before .before .before in
     let a = top .args in
-    rw (c .before .encoded-number .ensures)
-    (sym (encoded-refused _ _ _ _ _ (a .self) (held-fits (a .self) _ (top .good .0)) (omega arith)
-    (omega (arith, c .before .encoded-number .ensures, c .if1 .taken))))
+    encoded-refused _ _ _ _ _ (a .self) (held-fits (a .self) _ (top .good .0)) (omega arith) (c .before .encoded-number .ensures) (c .if1 .taken)
 
 sub-minus-one : tie.Need-sub-minus-one
-sub-minus-one c = encoded-above _ _ _ _ _ (sym (c .before .encoded-number .ensures) ∙ c .if1 .left)
+sub-minus-one c = encoded-above _ _ _ _ _ (c .before .encoded-number .ensures) (c .if1 .left)
 
 sample-residues-requires : tie.Need-sample-residues-requires
 sample-residues-requires c κs = search needs
@@ -32,9 +29,8 @@ returns-2 c =
     let at = c .before .before .before .before in
     let top = at .before .before .before .before .before .before .before .before in
     let a = top .args in
-    c .before .before .sample-residues .ensures
-    ∙ encoded-drawn _ _ _ _ _ (a .self) (held-fits (a .self) _ (top .good .0)) (omega arith)
-    (sym (at .before .encoded-number .ensures) ∙ at .if1 .left)
+    encoded-drawn _ _ _ _ _ (a .self) (held-fits (a .self) _ (top .good .0)) (omega arith) (at .before .encoded-number .ensures) (at .if1 .left)
+    (c .before .before .sample-residues .ensures)
 
 pub sample-encoded-to-spec : {M : Type 1} → statement M
 sample-encoded-to-spec =

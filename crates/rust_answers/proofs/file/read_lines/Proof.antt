@@ -1,4 +1,4 @@
--- `read_lines` is safe and ends: the rooms of the tables keep their lengths, and the bytes that are left become fewer.
+-- `read_lines` is safe and ends: the room keeps its length, and the bytes that are left become fewer.
 use Prim.Native.Nat.{_-_, _≤_}
 use mathlib.Core.Path.{_≡_}
 use lib.ListN.{length}
@@ -7,14 +7,13 @@ use Rattle.rust_answers.proofs.file.read_lines.Statement.{statement}
 use Rattle.rust_answers.proofs.file.read_lines.Tie as tie
 
 abbrev Inv-loop : tie.InvT-loop
-Inv-loop name text tables₀ reals₀ state₀ at₀ tables reals state at =
-    (at ≤ length text)
-    × (length text ≤ 18446744073709551615)
-    × (length tables ≡ length tables₀)
-    × (length reals ≡ length reals₀)
+Inv-loop text room₀ tally₀ at₀ room tally at = (at ≤ length text) × (length text ≤ 18446744073709551615) × (length room ≡ length room₀)
 
 abbrev μ-loop : tie.MeasureT-loop
-μ-loop name text tables₀ reals₀ state₀ at₀ tables reals state at = length text - at
+μ-loop text room₀ tally₀ at₀ room tally at = length text - at
+
+empty-requires : tie.Need-empty-requires Inv-loop μ-loop
+empty-requires c κs = search needs
 
 loop-holds : tie.Need-loop-holds Inv-loop μ-loop
 loop-holds c = search needs
@@ -52,9 +51,6 @@ loop-again-2 c = search needs
 same-length : tie.Need-same-length Inv-loop μ-loop
 same-length c = search needs
 
-same-length-2 : tie.Need-same-length-2 Inv-loop μ-loop
-same-length-2 c = search needs
-
 returns : tie.Need-returns Inv-loop μ-loop
 returns c = search needs
 
@@ -64,6 +60,7 @@ read-lines-spec =
     (tie.spec
     Inv-loop
     μ-loop
+    empty-requires
     loop-holds
     line-end-requires
     sub-read-line
@@ -76,5 +73,4 @@ read-lines-spec =
     loop-less-2
     loop-again-2
     same-length
-    same-length-2
     returns)

@@ -3,7 +3,7 @@ use mathlib.Core.Path.{_∙_, ap}
 use Prim.Native.Nat.{ℕ}
 use native.Mathlib.Omega.{arith}
 use lib.ListN.{length, length-replicate, take}
-use Rattle.sheet.proofs.Requests.{prefix-length, take-replicate, encoded-text, refusal-text, success-text, written-same}
+use Rattle.sheet.proofs.Answers.{prefix-length, take-replicate, encoded-text, refusal-text, success-text, written-same}
 use borrow.Author.Needs.{needs}
 use Rattle.sheet.proofs.reply.reply_encoded.Statement.{statement}
 use Rattle.sheet.proofs.reply.reply_encoded.Tie as tie

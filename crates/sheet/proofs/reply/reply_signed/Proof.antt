@@ -3,7 +3,7 @@ use mathlib.Core.Path.{_∙_, ap}
 use native.Mathlib.Omega.{arith}
 use lib.ListN.{length, length-replicate, take}
 use lib.IntN.{pos}
-use Rattle.sheet.proofs.Requests.{prefix-length, take-replicate, signed-text, refusal-text, success-text, written-same}
+use Rattle.sheet.proofs.Answers.{prefix-length, take-replicate, signed-text, refusal-text, success-text, written-same}
 use borrow.Author.Needs.{needs}
 use Rattle.sheet.proofs.reply.reply_signed.Statement.{statement}
 use Rattle.sheet.proofs.reply.reply_signed.Tie as tie

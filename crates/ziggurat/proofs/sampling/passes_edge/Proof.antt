@@ -10,12 +10,12 @@ use Rattle.distr.specs.Words.{got}
 use Rattle.distr.specs.Gaussian.{literal}
 use Rattle.distr.specs.Layered.{Layers, float}
 use Rattle.words.specs.Reading.{thresholdValue}
-use Rattle.ziggurat.specs.declared.fringe.Layer.{Layer}
+use Rattle.fringe.specs.declared.Layer.{Layer}
 use Rattle.ziggurat.specs.Tables.{tables}
-use Rattle.ziggurat.specs.Fringe.{acceptsOn}
+use Rattle.fringe.specs.Fringe.{acceptsOn}
 use Rattle.ziggurat.specs.Sampling.{edgeWords}
-use Rattle.ziggurat.proofs.Judging.{getD-there}
-use Rattle.ziggurat.proofs.Accepting.{same-accepts}
+use Rattle.layer_tables.proofs.Judging.{getD-there}
+use Rattle.fringe.proofs.Accepting.{same-accepts}
 use Rattle.ziggurat.proofs.Passing.{not-full, fringe-words, zero-words, full-passes, zero-passes, fringe-passes}
 use Rattle.ziggurat.proofs.sampling.passes_edge.Statement.{statement}
 use Rattle.ziggurat.proofs.sampling.passes_edge.Tie as tie

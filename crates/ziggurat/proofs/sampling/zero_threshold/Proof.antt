@@ -11,7 +11,7 @@ use Rattle.probability.specs.declared.MadeThreshold.{MadeThreshold}
 use Rattle.probability.specs.Made.{madeThreshold}
 use Rattle.probability.proofs.Made.{flagged-value, made-threshold}
 use Rattle.ziggurat.specs.Tables.{tables}
-use Rattle.ziggurat.proofs.Judging.{getD-there}
+use Rattle.layer_tables.proofs.Judging.{getD-there}
 use Rattle.ziggurat.proofs.LayerTables.{some-layers, heights-count, first-finite, first-high}
 use Rattle.ziggurat.proofs.ZeroThreshold.{half-over}
 use borrow.Author.Needs.{needs}

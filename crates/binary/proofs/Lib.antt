@@ -1,0 +1,3 @@
+-- Laws of the draws by one threshold.
+pub mod Halves
+pub mod Values

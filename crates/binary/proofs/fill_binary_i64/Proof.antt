@@ -1,0 +1,96 @@
+-- `fill_binary_i64` draws by the rule of its threshold.
+use mathlib.Core.Path.{_≡_, refl, sym}
+use mathlib.Core.Bool.{not}
+use lib.Dec.{lit<}
+use lib.ListN.{length}
+use lib.IntN.{pos}
+use native.Mathlib.Omega.{arith}
+use borrow.Author.Needs.{needs}
+use Rattle.distr.specs.Thresholds.{binaryValue, binary}
+use Rattle.distr.proofs.Writing.{map-id}
+use Rattle.words.specs.Reading.{thresholdValue}
+use Rattle.wide_words.specs.Answering.{wideRule}
+use Rattle.wide_words.proofs.Numbers.{answer-enough}
+use Rattle.wide_words.proofs.Answers.{draw-cleared, draw-refused, draw-constant, draw-read}
+use Rattle.binary.specs.Below.{oneBelow}
+use Rattle.binary.proofs.Values.{binary-rule, one-signed}
+use Rattle.binary.proofs.fill_binary_i64.Statement.{statement}
+use Rattle.binary.proofs.fill_binary_i64.Tie as tie
+
+rule-of : (c : tie.Start) → let t = c .args .threshold in let n = length (c .args .output .now) in
+    binary (thresholdValue t) n ≡ wideRule (not (t .full)) (pos 1) (binaryValue (t .below)) n
+rule-of c = binary-rule (c .args .threshold) (length (c .args .output .now)) (omega (arith, c .good .1 .0))
+
+answer-of-requires : tie.Need-answer-of-requires
+answer-of-requires c κs = search needs
+
+clear-i64-requires : tie.Need-clear-i64-requires
+clear-i64-requires c κs = search needs
+
+same-length : tie.Need-same-length
+same-length c = search needs
+
+returns : tie.Need-returns
+returns c =
+    let start = c .before .before .before .before .before .before .before .before in
+    let a = start .args in
+    draw-cleared (λ cs. cs) (λ x. x) (λ cs. sym (map-id cs)) 0 (lit< tt) (a .words .now) (a .place) (a .output .now)
+    (pos 1) (binaryValue (a .threshold .below)) _ _ (rule-of start) _ (c .before .before .before .before .before .answer-of .ensures) _
+    (c .before .before .before .if1 .taken) (c .before .clear-i64 .ensures)
+
+returns-2 : tie.Need-returns-2
+returns-2 c =
+    let start = c .before .before .before .before .before .before .before in
+    let a = start .args in
+    draw-refused (λ cs. cs) (λ x. x) (λ cs. sym (map-id cs)) 0 (lit< tt) (a .words .now) (a .place) (a .output .now)
+    (pos 1) (binaryValue (a .threshold .below)) _ _ (rule-of start) _ (c .before .before .before .before .answer-of .ensures) _
+    (c .before .before .if1 .left) (c .if2 .taken) refl
+
+fill-i64-requires : tie.Need-fill-i64-requires
+fill-i64-requires c κs = search needs
+
+same-length-2 : tie.Need-same-length-2
+same-length-2 c = search needs
+
+returns-3 : tie.Need-returns-3
+returns-3 c =
+    let start = c .before .before .before .before .before .before .before .before .before .before .before in
+    let a = start .args in
+    draw-constant (λ cs. cs) (λ x. x) (λ cs. sym (map-id cs)) 0 (lit< tt) (a .words .now) (a .place) (a .output .now)
+    (pos 1) (binaryValue (a .threshold .below)) _ _ (rule-of start) _ (c .before .before .before .before .before .before .before .before .answer-of .ensures) _
+    (c .before .before .before .before .if2 .left) (rw (c .before .before .before .if3 .taken))
+    (c .before .fill-i64 .ensures)
+
+fill-i64-requires-2 : tie.Need-fill-i64-requires-2
+fill-i64-requires-2 c κs =
+    answer-enough _ _ _ _ (rw (c .before .if3 .left) at
+    (c .before .before .before .before .before .before .answer-of .ensures)) (c .before .before .if2 .left)
+
+same-length-3 : tie.Need-same-length-3
+same-length-3 c = search needs
+
+returns-4 : tie.Need-returns-4
+returns-4 c =
+    let start = c .before .before .before .before .before .before .before .before .before .before .before in
+    let a = start .args in
+    draw-read (λ cs. cs) (λ x. x) (λ cs. sym (map-id cs)) 0 (lit< tt) (a .words .now) (a .place) (a .output .now)
+    (pos 1) (binaryValue (a .threshold .below)) _ _ (rule-of start) _ (c .before .before .before .before .before .before .before .before .answer-of .ensures) _
+    (c .before .before .before .before .if2 .left) (rw (c .before .before .before .if3 .left))
+    (λ i. c .before .before .before .before .before .before .before .before .before .before .shared-slice-known .given i .fits)
+    (λ w. pos (oneBelow (a .threshold .below) w)) (λ w h. one-signed (a .threshold .below) w) (c .before .fill-i642 .ensures)
+
+pub fill-binary-i64-spec : {M : Type 1} → statement M
+fill-binary-i64-spec =
+    tie.close
+    (tie.spec
+    answer-of-requires
+    clear-i64-requires
+    same-length
+    returns
+    returns-2
+    fill-i64-requires
+    same-length-2
+    returns-3
+    fill-i64-requires-2
+    same-length-3
+    returns-4)

@@ -1,0 +1,8 @@
+-- One 64-bit word an element, 1 or 0 by one end: what the loops of this crate do.
+use Prim.Native.Nat.{ℕ}
+use lib.Dec.{ltb}
+use mir.Val.{boolByte}
+
+-- 1 for a word below an end, else 0.
+unfoldable pub oneBelow : ℕ → ℕ → ℕ
+oneBelow end w = boolByte (ltb w end)

@@ -1,0 +1,29 @@
+-- `insertion::fill_with` writes one value of the table over the output: the value is copied out of the table, and fits its type.
+use mathlib.Core.Path.{ap, _∙_}
+use borrow.Author.Needs.{needs}
+use lib.ListN.{length, replicate}
+use mir.Syntax.{w64}
+use mir.ValLaws.{toZ-ofZ}
+use Rattle.fixed_weights_i64.proofs.insertion.fill_with.Statement.{statement}
+use Rattle.fixed_weights_i64.proofs.insertion.fill_with.Tie as tie
+
+mul-value : tie.Need-mul-value
+mul-value c = search needs
+
+element-copy-out-value : tie.Need-element-copy-out-value
+element-copy-out-value c = search needs
+
+fill-i64-requires : tie.Need-fill-i64-requires
+fill-i64-requires c κs = search needs
+
+same-length : tie.Need-same-length
+same-length c = search needs
+
+returns : tie.Need-returns
+returns c =
+    c .before .fill-i64 .ensures
+    ∙ ap (replicate (length (c .before .before .before .before .args .out .now))) (toZ-ofZ w64 _ (record { sfits = c .before .before .before .value .given }))
+
+pub fill-with-spec : {M : Type 1} → statement M
+fill-with-spec =
+    tie.close (tie.spec mul-value element-copy-out-value fill-i64-requires same-length returns)

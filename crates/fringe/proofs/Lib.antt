@@ -1,0 +1,2 @@
+-- The acceptance test over one layer, and over the tables.
+pub mod Accepting

@@ -1,0 +1,2 @@
+-- The laws of a test of a whole list.
+pub mod Judging

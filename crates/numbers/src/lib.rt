@@ -1,0 +1,47 @@
+// The numbers that refuse a draw by its place and its length, before it looks at a word.
+ghost use mathlib.Core.Path.{_≡_};
+ghost use mathlib.Core.List.{[], _∷_};
+ghost use Prim.Native.Nat.{_+_};
+ghost use Rattle.distr.specs.Numbers.{firstOf, pastEnd, tooLong, badWeight, badBlocks};
+
+// What refuses a draw of n coefficients from `place` in `count` words: 22 past the end of the words, 6 too long, or the draw's own number
+// of a length, a weight or a table, 0 where that is good.
+pub fn draw_number(count: usize, place: usize, n: usize, own: u32) -> u32
+    ensures { λ r. ⌜ r ≡ firstOf (pastEnd count place ∷ tooLong n ∷ own ∷ []) ⌝ }
+{
+    if count < place {
+        return 22;
+    }
+    if 65536 < n {
+        return 6;
+    }
+    own
+}
+
+// 7 where the sum of two weights is over the length, also where a u64 does not hold it; else 0.
+pub fn weight_number(first: usize, second: usize, length: usize) -> u32
+    ensures { λ r. ⌜ r ≡ badWeight (first + second) length ⌝ }
+{
+    if length < first {
+        7
+    } else if length - first < second {
+        7
+    } else {
+        0
+    }
+}
+
+// 8 for the length 0 and for one that is no multiple of the block size; else 0.
+pub fn block_number(block_size: usize, length: usize) -> u32
+    ensures { λ r. ⌜ r ≡ badBlocks «block_size» length ⌝ }
+{
+    if length == 0 {
+        8
+    } else if block_size == 0 {
+        8
+    } else if length % block_size == 0 {
+        0
+    } else {
+        8
+    }
+}

@@ -1,0 +1,12 @@
+-- `room::residues_room` is one value repeated: its length is not counted out.
+use mathlib.Core.Path.{sym}
+use Prim.Native.Nat.{ℕ}
+use lib.ListN.{length-replicate}
+use Rattle.rust_answers.proofs.room.residues_room.Statement.{statement}
+use Rattle.rust_answers.proofs.room.residues_room.Tie as tie
+
+returns : tie.Need-returns
+returns c = sym (length-replicate {A = ℕ} 131072 9)
+
+pub residues-room-spec : {M : Type 1} → statement M
+residues-room-spec = tie.close (tie.spec returns)

@@ -1,0 +1,2 @@
+-- What each prepared method draws.
+pub mod Drawing
