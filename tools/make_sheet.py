@@ -8,7 +8,7 @@ Without --out the sheet goes to standard output."""
 import argparse
 import sys
 
-from sheets import KINDS, sheet
+from sheets import KINDS, MOST_COEFFICIENTS, MOST_WORDS, sheet
 
 
 def number(text):
@@ -21,16 +21,34 @@ def number(text):
     return value
 
 
+def kind_list():
+    return "\n".join(f"{key}  {name}" for key, name in KINDS.items())
+
+
 def kind(text):
     names = {name: key for key, name in KINDS.items()}
-    return names[text] if text in names else number(text)
+    if text in names:
+        return names[text]
+    if not text[:1].isdigit():
+        raise argparse.ArgumentTypeError(f"no kind is called {text!r}; the kinds are\n{kind_list()}")
+    return number(text)
 
 
 class Kinds(argparse.Action):
     def __call__(self, parser, namespace, values, option_string=None):
-        for key, name in KINDS.items():
-            print(f"{key}  {name}")
+        print(kind_list())
         parser.exit()
+
+
+def malformed(given):
+    """Why the sheet will be answered by 14, or None: document 01's causes that a sheet from this tool can have."""
+    if given.kind not in KINDS:
+        return f"kind {given.kind} is not among 1 to 9"
+    if given.n > MOST_COEFFICIENTS:
+        return f"{given.n} coefficients are more than {MOST_COEFFICIENTS:,}"
+    if len(given.words) > MOST_WORDS:
+        return f"{len(given.words)} words are more than {MOST_WORDS:,}"
+    return None
 
 
 def main():
@@ -44,6 +62,9 @@ def main():
     parser.add_argument("--words", type=number, nargs="*", default=[], help="the random words")
     parser.add_argument("--out", help="file to write")
     given = parser.parse_args()
+    why = malformed(given)
+    if why:
+        print(f"make_sheet.py: this sheet will be answered by 14: {why}", file=sys.stderr)
     data = sheet(given.kind, given.n, given.a, given.b, given.words, given.modulus)
     try:
         if given.out:

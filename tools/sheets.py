@@ -14,6 +14,11 @@ KINDS = {
 }
 
 
+# A sheet with more is answered by 14.
+MOST_COEFFICIENTS = 4096
+MOST_WORDS = 8192
+
+
 def sheet(kind, n, a, b, words, modulus=0, last=0, offset=32, count=None):
     """The bytes of a sheet; count and offset can be given wrong on purpose."""
     count = len(words) if count is None else count

@@ -9,10 +9,10 @@ use Rattle.distr.specs.Distribution.{Distr, secret, error}
 use Rattle.distr.specs.Draw.{Outcome}
 use Rattle.distr.specs.declared.secret_key_distr.SecretKeyDistr.{SecretKeyDistr}
 use Rattle.distr.specs.declared.error_distribution.ErrorDistribution.{ErrorDistribution}
-use Rattle.secret_key_sampler.specs.declared.MadeSampler.{MadeSampler}
+use Rattle.secret_key_sampler.specs.declared.MadeSecretKeySampler.{MadeSecretKeySampler}
 use Rattle.secret_key_sampler.specs.Sampler.{making, isMade}
 use Rattle.secret_key_sampler.proofs.Calls.{made-number, made-refused, made-drawn}
-use Rattle.error_sampler.specs.declared.MadeSampler.{MadeSampler as MadeError}
+use Rattle.error_sampler.specs.declared.MadeErrorSampler.{MadeErrorSampler}
 use Rattle.error_sampler.specs.Sampler.{making as makingError, isMade as isMadeError}
 use Rattle.error_sampler.proofs.Calls.{made-number as error-number, made-refused as error-call-refused, made-drawn as error-call-drawn}
 use Rattle.beside.specs.declared.kind.Named.{Named}
@@ -82,7 +82,7 @@ pub named-made : {found told wanted : Named} → found ≡ told → found ≡ wa
 named-made e h = ap madeOf (sym e ∙ h)
 
 -- What making hands back, by its number.
-module _ (d : SecretKeyDistr) (m : MadeSampler) (h : m ≡ making d) where
+module _ (d : SecretKeyDistr) (m : MadeSecretKeySampler) (h : m ≡ making d) where
   pub key-refused : (m .number ≡ 0 → ⊥) → Refused (m .number) ≡ keyMade d
   unfolding keyMade
   key-refused never =
@@ -95,7 +95,7 @@ module _ (d : SecretKeyDistr) (m : MadeSampler) (h : m ≡ making d) where
       let own : Key (m .sampler) ≡ keyOrNumber m = rw (eq-eqb (m .number) 0 z) in
       own ∙ ap keyOrNumber h
 
-module _ (d : ErrorDistribution) (m : MadeError) (h : m ≡ makingError d) where
+module _ (d : ErrorDistribution) (m : MadeErrorSampler) (h : m ≡ makingError d) where
   pub error-refused : (m .number ≡ 0 → ⊥) → Refused (m .number) ≡ errorMade d
   unfolding errorMade
   error-refused never =

@@ -11,7 +11,7 @@ use Rattle.distr.specs.declared.secret_key_distr.SecretKeyDistr.the-variants.{F
 use Rattle.distr.specs.declared.secret_key_distr.BlockOccupancy.the-variants.{AtMostOne, ExactlyOne}
 use Rattle.distr.specs.declared.error_distribution.ErrorDistribution.the-variants.{CenteredBinomial, Gaussian as ErrorGaussian}
 use Rattle.distr.specs.Distribution.{Distr, secret, error}
-use Rattle.distr.specs.Draw.{Outcome, judged}
+use Rattle.distr.specs.Draw.{Outcome, atOnce}
 use Rattle.distr.specs.Making.{makingNumber}
 use Rattle.beside.specs.declared.kind.Named.{Named}
 use Rattle.beside.specs.declared.kind.Named.the-variants.{Key, Error, Unnamed}
@@ -44,13 +44,10 @@ madeNumber (Key d) = makingNumber (secret d)
 madeNumber (Error d) = makingNumber (error d)
 madeNumber Unnamed = 14
 
--- A call's draw by a distribution: the number of making it where that is not 0, else the draw of the sampler that is made.
-abbrev pub madeDraw : {A : Type 0} → (Distr → Outcome A) → ℕ → List A → Distr → Outcome A
-madeDraw draw place out d = judged (makingNumber d) place out (draw d)
-
+-- A call's draw: that of what its kind names, with the number of making before those of the draw; 14 where nothing is named.
 unfoldable pub called : {A : Type 0} → (Distr → Outcome A) → ℕ → List A → Named → Outcome A
-called draw place out (Key d) = madeDraw draw place out (secret d)
-called draw place out (Error d) = madeDraw draw place out (error d)
+called draw place out (Key d) = atOnce (secret d) place out (draw (secret d))
+called draw place out (Error d) = atOnce (error d) place out (draw (error d))
 called draw place out Unnamed = record { number = 14; place = place; output = out }
 
 -- The answer of a call: its number, the place that it writes and what its output holds then.

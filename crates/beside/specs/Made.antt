@@ -3,9 +3,9 @@ use mathlib.Core.Bool.{cond}
 use lib.Dec.{eqb}
 use Rattle.distr.specs.declared.secret_key_distr.SecretKeyDistr.{SecretKeyDistr}
 use Rattle.distr.specs.declared.error_distribution.ErrorDistribution.{ErrorDistribution}
-use Rattle.secret_key_sampler.specs.declared.MadeSampler.{MadeSampler}
+use Rattle.secret_key_sampler.specs.declared.MadeSecretKeySampler.{MadeSecretKeySampler}
 use Rattle.secret_key_sampler.specs.Sampler.{making}
-use Rattle.error_sampler.specs.declared.MadeSampler.{MadeSampler as MadeError}
+use Rattle.error_sampler.specs.declared.MadeErrorSampler.{MadeErrorSampler}
 use Rattle.error_sampler.specs.Sampler.{making as makingError}
 use Rattle.beside.specs.declared.kind.Named.{Named}
 use Rattle.beside.specs.declared.kind.Named.the-variants as Kind
@@ -13,10 +13,10 @@ use Rattle.beside.specs.declared.make.Made.{Made}
 use Rattle.beside.specs.declared.make.Made.the-variants.{Key, Error, Refused}
 
 -- What making hands back, as one of the two: number 0 with the sampler, or another number.
-abbrev pub keyOrNumber : MadeSampler → Made
+abbrev pub keyOrNumber : MadeSecretKeySampler → Made
 keyOrNumber m = cond (eqb (m .number) 0) (Key (m .sampler)) (Refused (m .number))
 
-abbrev pub errorOrNumber : MadeError → Made
+abbrev pub errorOrNumber : MadeErrorSampler → Made
 errorOrNumber m = cond (eqb (m .number) 0) (Error (m .sampler)) (Refused (m .number))
 
 unfoldable pub keyMade : SecretKeyDistr → Made

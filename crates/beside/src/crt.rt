@@ -17,7 +17,7 @@ pub extern "C" fn beside_crt(
     b: usize,
     p: f64,
     q: f64,
-    count: usize,
+    coefficient_count: usize,
     moduli: &[u64],
     bounds: &[u64],
     endpoints: &[u64],
@@ -30,31 +30,31 @@ pub extern "C" fn beside_crt(
 ) -> u32
     ensures { λ r. ⌜ answered r (now («new_place» .exit)) (now (output .exit)) ≡ called (λ (d : Distr). crtDraw true d
         (lent (now (bounds .entry)) (now (endpoints .entry)) (now (heights .entry)) (now (curve .entry)))
-        count (now (moduli .entry)) (now (words .entry)) place (now (output .entry)))
+        «coefficient_count» (now (moduli .entry)) (now (words .entry)) place (now (output .entry)))
         place (now (output .entry)) (named kind a b p q) ⌝ }
 {
     let answer = match make(kind, a, b, p, q) {
         Made::Key(sampler) => sampler.sample_crt_to(
             output,
-            count,
+            coefficient_count,
             moduli,
-            words,
-            place,
             bounds,
             endpoints,
             heights,
             curve,
+            words,
+            place,
         ),
         Made::Error(sampler) => sampler.sample_crt_to(
             output,
-            count,
+            coefficient_count,
             moduli,
-            words,
-            place,
             bounds,
             endpoints,
             heights,
             curve,
+            words,
+            place,
         ),
         Made::Refused(number) => Answer { number, place },
     };

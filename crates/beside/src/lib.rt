@@ -1,5 +1,8 @@
-// The calls that a comparison beside the Rust makes: a draw by kind, with its sampler made in the call.
+// Serves the comparison with the Rust, not a user: the calls that a comparison beside the Rust makes: a draw by kind, with its sampler made in the call.
 // A draw answers the number, and writes the place through new_place: the old one where the draw is refused.
+// What a foreign caller must keep, since no contract can ask it of one: every pointer, that of an empty slice too, is aligned for its
+// elements and never null; it is valid for its length, for writing where the slice is the output; and output and new_place overlap
+// neither each other nor anything else that the call is lent.
 mod crt;
 mod encoded;
 mod kind;

@@ -34,21 +34,21 @@ pub extern "C" fn beside_signed(
     let answer = match make(kind, a, b, p, q) {
         Made::Key(sampler) => sampler.sample_signed_to(
             output,
-            words,
-            place,
             bounds,
             endpoints,
             heights,
             curve,
+            words,
+            place,
         ),
         Made::Error(sampler) => sampler.sample_signed_to(
             output,
-            words,
-            place,
             bounds,
             endpoints,
             heights,
             curve,
+            words,
+            place,
         ),
         Made::Refused(number) => Answer { number, place },
     };

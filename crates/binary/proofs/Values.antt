@@ -1,19 +1,20 @@
--- The rule of one threshold, and the value of a word by it as a signed number and as a residue.
-use mathlib.Core.Path.{_≡_, refl, ap}
+-- The rule of one threshold, and the value of a word by it.
+use mathlib.Core.Path.{_≡_, refl, sym, ap, fun-ext}
 use mathlib.Core.Bool.{Bool, true, false, not, cond}
+use mathlib.Core.List.{List}
 use Prim.Native.Nat.{ℕ, _^_, _<_}
 use native.Mathlib.Omega.{arith}
 use lib.Dec.{ltb, lit<}
-use lib.IntN.{pos, natAbs}
+use lib.IntN.{ℤ, pos}
 use mir.Val.{boolByte}
 use borrow.Author.Tests.{ne-eqb}
 use Rattle.distr.specs.declared.threshold.Threshold.{Threshold}
 use Rattle.distr.specs.Thresholds.{binaryValue, binary}
 use Rattle.words.specs.Reading.{thresholdValue}
-use Rattle.wide_words.specs.Answering.{wideRule}
+use Rattle.wide_words.specs.Answering.{wideRule, wideRead}
 use Rattle.binary.specs.Below.{oneBelow}
 
--- one threshold: the rule, and the value of a word as a signed number and as a residue
+-- one threshold: the rule, and the value of a word
 pub binary-rule : (t : Threshold) (n : ℕ) → t .below < 2 ^ 64
     → binary (thresholdValue t) n ≡ wideRule (not (t .full)) (pos 1) (binaryValue (t .below)) n
 binary-rule t n h = go (t .full) refl
@@ -30,8 +31,10 @@ one-signed t w = go (ltb w t)
     go true = refl
     go false = refl
 
-pub one-residue : (t w : ℕ) → oneBelow t w ≡ natAbs (binaryValue t w)
-one-residue t w = ap natAbs (one-signed t w)
+-- ones and zeros as an output holds them, by f
+pub below-held : {A : Type 0} (f : ℤ → A) (t n : ℕ) (words : List ℕ)
+    → wideRead (λ w. f (binaryValue t w)) n words ≡ wideRead (λ w. f (pos (oneBelow t w))) n words
+below-held {A} f t n words = ap (λ (v : ℕ → A). wideRead v n words) (fun-ext (λ w. ap f (sym (one-signed t w))))
 
 pub one-small : (t w : ℕ) → oneBelow t w < 2
 unfolding oneBelow

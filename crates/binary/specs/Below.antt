@@ -1,4 +1,4 @@
--- One 64-bit word an element, 1 or 0 by one end: what the loops of this crate do.
+-- One 64-bit word an element, 1 or 0 by one end: what the loops do.
 use Prim.Native.Nat.{ℕ}
 use lib.Dec.{ltb}
 use mir.Val.{boolByte}

@@ -13,7 +13,7 @@ use borrow.Rule.Slice.PartMut.{midOf, postOf, putMid, mid-len}
 use lib.Dec.{ltb}
 use lib.ListN.{length, take, drop, set, replicate, length-append, length-set, length-replicate}
 use lib.Seq.{length-take-le, take-at, take-all, set-out}
-use lib.IntN.{ℤ, pos, natAbs}
+use lib.IntN.{ℤ, pos}
 use Rattle.distr.specs.Words.{Read, got, short, mapRead, bindRead, choose, chooseEach}
 use Rattle.distr.specs.Blocks.{block, blocksOf}
 use Rattle.distr.specs.Draw.{settled}
@@ -75,16 +75,16 @@ pub record Holds {A : Type 0} (write : List ℤ → List A) (z o : A) : Type 0 w
   pub one-block : (size s : ℕ) → write (block size s) ≡ set (replicate size z) s o
   pub joined : (xs ys : List ℤ) → write (xs ++ ys) ≡ write xs ++ write ys
 
--- i64 holds the coefficients themselves, u64 their magnitudes
+-- the coefficients themselves, or each by a function
 pub signed : Holds (λ cs. cs) (pos 0) (pos 1)
 signed = record { none = refl; zeros = λ n. refl; one-block = λ size s. refl; joined = λ xs ys. refl }
 
-pub unsigned : Holds (map natAbs) 0 1
-unsigned = record {
+pub mapped : {A : Type 0} (f : ℤ → A) → Holds (map f) (f (pos 0)) (f (pos 1))
+mapped {A} f = record {
   none = refl;
-  zeros = λ n. map-replicate natAbs n (pos 0);
-  one-block = λ size s. map-set natAbs (replicate size (pos 0)) s (pos 1) ∙ ap (λ (t : List ℕ). set t s 1) (map-replicate natAbs size (pos 0));
-  joined = map-append natAbs;
+  zeros = λ n. map-replicate f n (pos 0);
+  one-block = λ size s. map-set f (replicate size (pos 0)) s (pos 1) ∙ ap (λ (t : List A). set t s (f (pos 1))) (map-replicate f size (pos 0));
+  joined = map-append f;
 }
 
 -- what is read from the words left where m blocks are still to fill and xs stands before them

@@ -2,14 +2,15 @@
 use mathlib.Core.Path.{_≡_, sym, ap, _∙_}
 use mathlib.Core.Bool.{not}
 use mathlib.Core.List.{List}
-use Prim.Native.Nat.{ℕ, zero, suc, _*_, _/_, _%_, _<_, _≤_}
-use native.Mathlib.Nat.{mod-zero, div-add-mod'}
+use Prim.Native.Nat.{ℕ, zero, suc, _*_, _/_, _%_, _^_, _<_, _≤_}
+use native.Mathlib.Nat.{mod-zero, mod-eq-of-lt, div-add-mod'}
 use native.Mathlib.Omega.{arith}
 use borrow.Author.Tests.{eqb-true, eqb-false, not-false}
 use lib.Dec.{eqb}
 use lib.ListN.{length, drop}
 use lib.IntN.{ℤ}
 use Rattle.distr.specs.declared.secret_key_distr.BlockOccupancy.{BlockOccupancy}
+use Rattle.distr.specs.declared.secret_key_distr.BlockOccupancy.the-variants.{AtMostOne, ExactlyOne}
 use Rattle.distr.specs.Blocks.{categories, blockBinary}
 use Rattle.distr.specs.Numbers.{badBlocks}
 use Rattle.distr.specs.Draw.{Outcome, settled, ruleDraw}
@@ -45,6 +46,11 @@ accepted count place n size number z =
     let size-good = divides size n (eqb-false n 0 (d .0)) whole in
     record { within = good .0; some = size-good .0; whole = whole; small = omega (arith, size-good .1, good .1) }
 
+-- the choices for a block that an output has room for
+choices-fit : (size : ℕ) (occupancy : BlockOccupancy) → size ≤ 65536 → categories size occupancy % 2 ^ 64 ≡ categories size occupancy
+choices-fit size ExactlyOne h = mod-eq-of-lt (omega arith)
+choices-fit size AtMostOne h = mod-eq-of-lt (omega arith)
+
 module _ {A : Type 0} (write : List ℤ → List A) (words : List ℕ) (place size : ℕ) (occupancy : BlockOccupancy) (out : List A) {k : ℕ}
     (number : k ≡ blocksNumber (length words) place (length out) size) where
   abbrev promised : Outcome A
@@ -54,8 +60,9 @@ module _ {A : Type 0} (write : List ℤ → List A) (words : List ℕ) (place si
   refused = rule-refused write (badBlocks size (length out)) words place out number (blockBinary size occupancy (length out))
 
   -- what the blocks give is the draw
-  pub drawn : {choices : ℕ} {o : Outcome A} → k ≡ 0 → choices ≡ categories size occupancy
+  pub drawn : {choices : ℕ} {o : Outcome A} → k ≡ 0 → choices ≡ categories size occupancy % 2 ^ 64
       → o ≡ settled write (length words) place (length out) (wanted size choices (length out) (drop place words)) → o ≡ promised
   drawn z e s =
-      s ∙ ap (λ (j : ℕ). settled write (length words) place (length out) (wanted size j (length out) (drop place words))) e
+      s ∙ ap (λ (j : ℕ). settled write (length words) place (length out) (wanted size j (length out) (drop place words)))
+      (e ∙ choices-fit size occupancy (accepted (length words) place (length out) size number z .small))
       ∙ rule-passed write (badBlocks size (length out)) words place out number (blockBinary size occupancy (length out)) z

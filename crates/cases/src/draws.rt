@@ -1,45 +1,43 @@
 // A draw for each case, and its line.
 use crate::print;
-use block_binary::sample_block_binary_values_to_i64;
-use cdt::sample_cdt_to_i64;
-use cdt::sample_cdt_to_u64;
-use centered_binomial::CenteredBinomial;
-use common::sample_binary_values_with_probability_to_i64;
-use common::sample_fixed_composition_ternary_values_to_i64;
-use common::sample_fixed_hamming_weight_binary_values_to_i64;
-use common::sample_ternary_values_with_probabilities_to_i64;
-use common::sample_uniform_binary_values_to_i64;
-use common::sample_uniform_ternary_values_to_i64;
+use centered_binomial::CenteredBinomialParameters;
+use common::signed;
 use distr::secret_key_distr::BlockOccupancy;
 use words::Taken;
 
 // Uniform binary values over the output, from a place.
 pub(crate) fn uniform_binary(label: &[u8], output: &mut [i64], words: &[u32], place: usize) {
-    let answer = sample_uniform_binary_values_to_i64(output, words, place);
+    let answer = signed::sample_uniform_binary_values_to(output, words, place);
     print::line(label, answer.number, answer.place, output);
 }
 
 // Uniform ternary values over the output.
 pub(crate) fn uniform_ternary(label: &[u8], output: &mut [i64], words: &[u32]) {
-    let answer = sample_uniform_ternary_values_to_i64(output, -1, words, 0);
+    let answer = signed::sample_uniform_ternary_values_to(output, words, 0);
     print::line(label, answer.number, answer.place, output);
 }
 
 // One coefficient of the centered binomial of eta.
 pub(crate) fn centered_binomial(label: &[u8], eta: u32, words: &[u32]) {
     let mut output = [9i64; 1];
-    let made = CenteredBinomial::new(eta);
-    let sampler = made.sampler;
-    let answer = sampler.sample_to_i64(&mut output, words, 0);
+    let made = CenteredBinomialParameters::new(eta);
+    let parameters = made.parameters;
+    let encoding = output_i64::Encoding {};
+    let answer = centered_binomial_i64::draw::sample_binomial_to(
+        &mut output,
+        encoding,
+        parameters,
+        words,
+        0,
+    );
     print::line(label, answer.number, answer.place, &output);
 }
 
 // A fixed composition over the output; the words are 0, 0.
 pub(crate) fn composition(label: &[u8], output: &mut [i64], minus_ones: usize, ones: usize) {
     let words = [0u32; 2];
-    let answer = sample_fixed_composition_ternary_values_to_i64(
+    let answer = signed::sample_fixed_composition_ternary_values_to(
         output,
-        -1,
         minus_ones,
         ones,
         &words,
@@ -51,13 +49,24 @@ pub(crate) fn composition(label: &[u8], output: &mut [i64], minus_ones: usize, o
 // Four binary values of a weight.
 pub(crate) fn binary_weight(label: &[u8], weight: usize, words: &[u32]) {
     let mut output = [9i64; 4];
-    let answer = sample_fixed_hamming_weight_binary_values_to_i64(&mut output, weight, words, 0);
+    let answer = signed::sample_fixed_hamming_weight_binary_values_to(
+        &mut output,
+        weight,
+        words,
+        0,
+    );
     print::line(label, answer.number, answer.place, &output);
 }
 
 // Blocks of 2 over the output, each with exactly one 1.
 pub(crate) fn blocks(label: &[u8], output: &mut [i64], words: &[u32]) {
-    let answer = sample_block_binary_values_to_i64(output, 2, BlockOccupancy::ExactlyOne, words, 0);
+    let answer = signed::sample_block_binary_values_to(
+        output,
+        2,
+        BlockOccupancy::ExactlyOne,
+        words,
+        0,
+    );
     print::line(label, answer.number, answer.place, output);
 }
 
@@ -65,7 +74,7 @@ pub(crate) fn blocks(label: &[u8], output: &mut [i64], words: &[u32]) {
 pub(crate) fn binary_probability(label: &[u8], one_probability: f64) {
     let words = [0xffff_ffff, 0x3fff_ffff, 0, 0x4000_0000, 0, 0xc000_0000];
     let mut output = [9i64; 3];
-    let answer = sample_binary_values_with_probability_to_i64(
+    let answer = signed::sample_binary_values_with_probability_to(
         &mut output,
         one_probability,
         &words,
@@ -78,9 +87,8 @@ pub(crate) fn binary_probability(label: &[u8], one_probability: f64) {
 pub(crate) fn ternary_probabilities(label: &[u8], minus_one: f64, one: f64) {
     let words = [0xffff_ffff, 0x3fff_ffff, 0, 0x4000_0000, 0, 0xc000_0000];
     let mut output = [9i64; 3];
-    let answer = sample_ternary_values_with_probabilities_to_i64(
+    let answer = signed::sample_ternary_values_with_probabilities_to(
         &mut output,
-        -1,
         minus_one,
         one,
         &words,
@@ -105,7 +113,8 @@ pub(crate) fn choice(label: &[u8], words: &[u32]) {
 pub(crate) fn cumulative(label: &[u8], words: &[u32]) {
     let bounds = [0u64, 4, 8, 0xffff_ffff_ffff_ffff];
     let mut output = [9i64; 4];
-    let answer = sample_cdt_to_i64(&mut output, 2, &bounds, words, 0);
+    let encoding = output_i64::Encoding {};
+    let answer = cdt_i64::sample_cdt_to(&mut output, encoding, 2, &bounds, words, 0);
     print::line(label, answer.number, answer.place, &output);
 }
 
@@ -114,7 +123,8 @@ pub(crate) fn cumulative_residue(label: &[u8]) {
     let bounds = [0u64, 4, 8, 0xffff_ffff_ffff_ffff];
     let words = [2u32, 0];
     let mut output = [9u64; 1];
-    let answer = sample_cdt_to_u64(&mut output, 4, 2, &bounds, &words, 0);
+    let encoding = output_u64::Encoding { minus_one: 4 };
+    let answer = cdt_u64::sample_cdt_to(&mut output, encoding, 2, &bounds, &words, 0);
     print::head(label, answer.number, answer.place as u64);
     print::unsigned(output[0]);
     print::end();
@@ -125,9 +135,18 @@ pub(crate) fn residues(label: &[u8]) {
     let words = [12u32, 0];
     let moduli = [5u64, 7];
     let mut last = [9u64; 1];
-    let made = CenteredBinomial::new(2);
-    let sampler = made.sampler;
-    let drawn = sampler.sample_to_u64(&mut last, 0xffff_ffff_ffff_ffff, &words, 0);
+    let made = CenteredBinomialParameters::new(2);
+    let parameters = made.parameters;
+    let encoding = output_u64::Encoding {
+        minus_one: 0xffff_ffff_ffff_ffff,
+    };
+    let drawn = centered_binomial_u64::draw::sample_binomial_to(
+        &mut last,
+        encoding,
+        parameters,
+        &words,
+        0,
+    );
     let mut output = [9, last[0]];
     let answer = crt::finish(&mut output, 1, &moduli, drawn);
     print::head(label, answer.number, answer.place as u64);

@@ -3,6 +3,7 @@
 mod draws;
 mod making;
 mod print;
+mod rows;
 
 // "Marked cases", 1 to 3, 6 to 9 and 12: whole draws. Each output is 9 throughout before its draw.
 fn marked_draws() {
@@ -59,7 +60,7 @@ fn traps() {
     draws::binary_weight(b"tie of 0 and 1", 2, &[0, 0]);
 }
 
-// "Yes is a 64-bit word below it, and threshold 2^64 says yes without reading"; "below N is -1, below E is 1, else 0"; number 1. The words
+// "Yes is a 64-bit word below it, and threshold 2^64 says yes without reading"; "below N is −1, below E is 1, else 0"; number 1. The words
 // are 2^62-1, 2^62 and 3 × 2^62, and N and E are 2^62 and 3 × 2^62.
 fn probabilities() {
     draws::binary_probability(b"probability 0.25", 0.25);
@@ -69,10 +70,21 @@ fn probabilities() {
     draws::ternary_probabilities(b"probabilities 0.75, 0.5", 0.75, 0.5);
 }
 
+// "The row of one modulus is handed back as that part of the output; a row number out of range, or a wrong shape, gives the empty part at
+// its start." Each line has the length of the part and the whole buffer, in which the part was written to and nothing else.
+fn rows_of_a_buffer() {
+    rows::row(b"row 0 of 3 coefficients, 2 moduli", 3, 2, 0);
+    rows::row(b"row 1 of 3 coefficients, 2 moduli", 3, 2, 1);
+    rows::row(b"row 2 of 3 coefficients, 2 moduli", 3, 2, 2);
+    rows::row(b"row 1 of 2 coefficients, 2 moduli", 2, 2, 1);
+    rows::row(b"row 0 of 6 coefficients, 2 moduli", 6, 2, 0);
+}
+
 fn main() {
     marked_draws();
     marked_rules();
     run_only();
     traps();
     probabilities();
+    rows_of_a_buffer();
 }

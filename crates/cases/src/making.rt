@@ -1,6 +1,6 @@
 // Samplers that are made or refused.
 use crate::print;
-use centered_binomial::CenteredBinomial;
+use centered_binomial::CenteredBinomialParameters;
 
 // The number and M, which is 0 in the empty record of a refusal.
 pub(crate) fn gaussian(label: &[u8], deviation: f64) {
@@ -9,9 +9,9 @@ pub(crate) fn gaussian(label: &[u8], deviation: f64) {
     print::end();
 }
 
-// The number and eta, which is 0 in the empty sampler of a refusal.
+// The number and eta, which is 0 in the empty parameters of a refusal.
 pub(crate) fn centered_binomial(label: &[u8], eta: u32) {
-    let made = CenteredBinomial::new(eta);
-    print::head(label, made.number, made.sampler.eta as u64);
+    let made = CenteredBinomialParameters::new(eta);
+    print::head(label, made.number, made.parameters.eta as u64);
     print::end();
 }

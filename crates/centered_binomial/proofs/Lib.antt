@@ -1,4 +1,4 @@
--- Laws of the centered binomial: its counts of ones, their differences, and its samplers.
-pub mod Differences
+-- Laws of the centered binomial: its parameters, its counts of ones, and its deviations.
+pub mod Made
 pub mod Counting
-pub mod Samplers
+pub mod Deviations

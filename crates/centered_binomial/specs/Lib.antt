@@ -1,2 +1,3 @@
--- What the centered-binomial sampler is, and the whole answer of its draws.
+-- What the centered binomial prepares, the whole answer of its draws, and its standard deviation.
 pub mod Binomial
+pub mod Deviation

@@ -1,67 +1,69 @@
--- Demand 3, whole. A request is a sampler, a length n and the lent tables. For every request that is accepted, that is, whose every call answers
--- 0, 22 or 23, and every coefficient list: exactly the formula's number of its draw lists reach a list inside the distribution, and none reach
--- one outside; every draw list is carried by some words, and whatever is read is a draw list. A draw list reaches a coefficient list if every
--- call on words that carry it answers 0 and the place where the rules stop, and writes that list; what a call does is the predicate `Meets`, which
--- is what the contracts of both `sample_signed_to` state.
-use mathlib.Core.Path.{_≡_, sym, ap, subst, _∙_}
+-- Demand 3: the proof of specs/Certificate.
+use mathlib.Core.Path.{_≡_, refl, sym, subst, _∙_}
+use mathlib.Core.Bool.{Bool, cond}
 use mathlib.Core.List.{List}
-use Prim.Native.Nat.{ℕ, _^_, _≤_}
+use Prim.Native.Nat.{ℕ}
 use lib.Dec.{T}
 use lib.IntN.{ℤ}
-use Rattle.distr.specs.declared.secret_key_distr.SecretKeyDistr.{SecretKeyDistr}
+use borrow.Author.Tests.{eq-eqb}
 use Rattle.distr.specs.declared.secret_key_distr.SecretKeyDistr.the-variants.{FixedCompositionTernary}
-use Rattle.distr.specs.Distribution.{secret, error, Tables, rule}
+use Rattle.distr.specs.Distribution.{Distr, secret}
+use Rattle.distr.specs.Making.{secretNumber, makingNumber}
+use Rattle.distr.proofs.Reading.{T-true}
+use Rattle.counts.specs.DrawLists.{Exactly}
 use Rattle.counts.specs.Inside.{inside}
 use Rattle.counts.specs.Formula.{formula, secretFormula}
-use Rattle.counts.specs.Demand3.{Exactly, inBox, Meets, Accepted, Reaches, Demand3, FairChoice}
-use Rattle.counts.proofs.Reached.{demand-3}
-use Rattle.counts.proofs.Choices.{fair-choice}
-use Rattle.secret_key_sampler.specs.declared.SecretKeySampler.{SecretKeySampler}
-use Rattle.secret_key_sampler.specs.Sampler.{isMade}
-use Rattle.secret_key_sampler.proofs.Made.{made-number}
-use Rattle.error_sampler.specs.declared.ErrorSampler.{ErrorSampler}
-use Rattle.error_sampler.specs.Sampler.{isMade as isMadeError}
-use Rattle.error_sampler.proofs.Made.{made-number as made-error-number}
+use Rattle.counts.proofs.Choices.{choice-each, choice-others}
+use Rattle.draw_laws.proofs.Making.{Makes, making}
+use Rattle.secret_key_sampler.proofs.Made.{made-number, makes}
+use Rattle.error_sampler.proofs.Made.{made-number as made-error-number, makes as error-makes}
+use Rattle.certificate.specs.Certificate.{Accepted, Demand3, Reaching, ForSampler, Certificate}
+use Rattle.certificate.proofs.Reached.{demand-3, accepted}
 
--- `SecretKeySampler::sample_signed_to`
-pub secret-key-draws : (s : SecretKeySampler) (n : ℕ) (tables : Tables)
-    → Accepted (isMade s) (secret (s .distr)) n tables → Demand3 (isMade s) (secret (s .distr)) n tables
-secret-key-draws s n tables ok = demand-3 (isMade s) (secret (s .distr)) n tables (made-number s) ok
+-- a sampler of either kind: what is made passes its test, so its requests are accepted
+module _ {D S R : Type 0} (k : Makes D S R) (is-made : (s : S) → T (k .good s) → makingNumber (k .kind (k .distrOf s)) ≡ 0) where
+  for-sampler : ForSampler S D (k .kind) (k .distrOf) (k .good) (λ d s. making k d ≡ k .made 0 s)
+  for-sampler = record {
+    every-request = every;
+    requests-exist = λ d n tables z numbers no-layers.
+        let s = k .own d in
+        let judged : k .judge d ≡ 0 = sym (k .judges d) ∙ z in
+        let ok : Accepted (k .good s) (k .kind (k .distrOf s)) n (tables .bounds) =
+        subst (λ (e : D). Accepted (k .good s) (k .kind e) n (tables .bounds)) (sym (k .own-distr d))
+        (subst (λ (b : Bool). Accepted b (k .kind d) n (tables .bounds)) (sym (T-true (k .good s) (k .own-good d judged)))
+        (accepted (k .kind d) n tables numbers no-layers)) in
+        (s, rw (eq-eqb (k .judge d) 0 judged), ok, every s n (tables .bounds) ok);
+  }
+    where
+      every : (s : S) (n : ℕ) (bounds : List ℕ) → Accepted (k .good s) (k .kind (k .distrOf s)) n bounds → Demand3 (k .good s) (k .kind (k .distrOf s)) n bounds
+      every s n bounds ok = demand-3 (k .good s) (k .kind (k .distrOf s)) n bounds (is-made s) ok
 
--- `ErrorSampler::sample_signed_to`
-pub error-draws : (s : ErrorSampler) (n : ℕ) (tables : Tables)
-    → Accepted (isMadeError s) (error (s .distribution)) n tables → Demand3 (isMadeError s) (error (s .distribution)) n tables
-error-draws s n tables ok = demand-3 (isMadeError s) (error (s .distribution)) n tables (made-error-number s) ok
+-- the formula's number of draw lists reach a list inside the distribution
+inside-exactly : (made : Bool) (d : Distr) (n : ℕ) (bounds : List ℕ) (cs : List ℤ) → Demand3 made d n bounds → T (inside d n cs)
+    → Exactly (List ℕ) (formula d n bounds cs) (Reaching made d n bounds cs)
+inside-exactly made d n bounds cs all i =
+    subst (λ (b : Bool). Exactly (List ℕ) (cond b (formula d n bounds cs) 0) (Reaching made d n bounds cs)) (T-true (inside d n cs) i) (all .exactly cs)
 
--- a draw list of the request that reaches cs
-abbrev pub Reaching : SecretKeySampler → ℕ → Tables → List ℤ → List ℕ → Type 0
-Reaching s n tables cs ds =
-    T (inBox (rule (secret (s .distr)) n (tables .bounds) .ranges) ds)
-    × Reaches (rule (secret (s .distr)) n (tables .bounds)) n (Meets (isMade s) (secret (s .distr)) tables) ds cs
+-- a composition is always made, and its formula is the same for every list
+compositions : (made : Bool) (minus ones n : ℕ) (bounds : List ℕ) (cs cs′ : List ℤ)
+    → let d = secret (FixedCompositionTernary minus ones) in
+    Accepted made d n bounds → T (inside d n cs) → T (inside d n cs′)
+    → (N : ℕ) × Exactly (List ℕ) N (Reaching made d n bounds cs) × Exactly (List ℕ) N (Reaching made d n bounds cs′)
+unfolding formula secretFormula makingNumber secretNumber
+compositions made minus ones n bounds cs cs′ ok i i′ =
+    let d = secret (FixedCompositionTernary minus ones) in
+    let all = demand-3 made d n bounds (λ t. refl) ok in
+    (formula d n bounds cs, inside-exactly made d n bounds cs all i, inside-exactly made d n bounds cs′ all i′)
 
--- a composition's formula is the same for every list
-same-count : (d : SecretKeyDistr) (minus ones n : ℕ) (bounds : List ℕ) (cs cs′ : List ℤ) → d ≡ FixedCompositionTernary minus ones
-    → formula (secret d) n bounds cs′ ≡ formula (secret d) n bounds cs
-unfolding formula secretFormula
-same-count d minus ones n bounds cs cs′ e =
-    ap (λ (x : SecretKeyDistr). formula (secret x) n bounds cs′) e ∙ sym (ap (λ (x : SecretKeyDistr). formula (secret x) n bounds cs) e)
-
--- "So any two keys of one fixed composition are reached by equally many draw lists."
-pub compositions : (s : SecretKeySampler) (minus ones n : ℕ) (tables : Tables) (cs cs′ : List ℤ)
-    → s .distr ≡ FixedCompositionTernary minus ones
-    → Accepted (isMade s) (secret (s .distr)) n tables → T (inside (secret (s .distr)) n cs) → T (inside (secret (s .distr)) n cs′)
-    → (N : ℕ)
-    × Exactly (List ℕ) N (Reaching s n tables cs)
-    × Exactly (List ℕ) N (Reaching s n tables cs′)
-compositions s minus ones n tables cs cs′ e ok i i′ =
-    let all = secret-key-draws s n tables ok in (
-      formula (secret (s .distr)) n (tables .bounds) cs,
-      all .inside-exactly cs i,
-      subst (λ (N : ℕ). Exactly (List ℕ) N (Reaching s n tables cs′)) (same-count (s .distr) minus ones n (tables .bounds) cs cs′ e)
-          (all .inside-exactly cs′ i′),
-    )
-
--- "And for every k from 1 to 2^32, a bounded choice among k values gives each of them for exactly the whole part of 2^32/k words and skips all
--- other words."
-pub choices : (k : ℕ) → 1 ≤ k → k ≤ 2 ^ 32 → FairChoice k
-choices = fair-choice
+pub certificate : Certificate
+certificate = record {
+  secret-keys = for-sampler makes made-number;
+  errors = for-sampler error-makes made-error-number;
+  compositions = λ s minus ones n bounds cs cs′ e. compositions (makes .good s) minus ones n bounds cs cs′;
+  choices = λ k l u. record { each = choice-each k l; others = λ w h. choice-others k l w };
+  secret-key-draws = (λ κs before. refl, λ κs before answer after. refl);
+  error-draws = (λ κs before. refl, λ κs before answer after. refl);
+  secret-key-making = (λ κs before. refl, λ κs before made after. refl);
+  error-making = (λ κs before. refl, λ κs before made after. refl);
+  bounded-choice = (λ κs before. refl, λ κs before answer after. refl);
+}

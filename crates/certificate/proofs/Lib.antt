@@ -1,2 +1,4 @@
+pub mod Tails
+pub mod Reached
 pub mod Certificate
-pub mod Contracts
+pub mod Instances

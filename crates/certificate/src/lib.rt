@@ -1,1 +1,1 @@
-// Demand 3 over the signed draws of both samplers. There is no code here; proofs/Certificate.antt has the theorem.
+// Inner crate of primus_distr: demand 3 over the code of both samplers. There is no code here: specs/Certificate.antt is the claim, proofs/Certificate.antt its proof.

@@ -17,9 +17,9 @@ use Rattle.distr.specs.declared.secret_key_distr.BlockOccupancy.the-variants.{A
 use Rattle.distr.specs.Blocks.{categories, block, blocksOf, blockBinary}
 use Rattle.distr.specs.Making.{badBlock}
 use Rattle.counts.specs.Inside.{same, tally, every, isBit, listOf, everyBlock, blockOk}
-use Rattle.counts.specs.Demand3.{inBox, Carries, Counted}
+use Rattle.counts.specs.DrawLists.{inBox, Carries}
 use Rattle.counts.proofs.Sums.{bit, sum, cnt, sameList, sum-ext, sum-first, sum-zero, sum-mul-right, cnt-ext, cnt-mul-left, bit-and}
-use Rattle.counts.proofs.Exact.{counted}
+use Rattle.counts.proofs.Exact.{Counted, counted}
 use Rattle.counts.proofs.Choices.{choosable, choices-boxed, choices-carried, choices-are-words}
 
 -- ---- lists of coefficients that pass a test

@@ -14,7 +14,7 @@ use lib.IntN.{ℤ, pos, negsuc, natAbs, _+ℤ_, _-ℤ_, +ℤ-assoc, +ℤ-comm, -
 use Rattle.distr.specs.CenteredBinomial.{binomialValue, centeredBinomial}
 use Rattle.counts.specs.Inside.{same, within, listOf}
 use Rattle.counts.specs.Formula.{binomial, binomialWays, productOf}
-use Rattle.counts.specs.Demand3.{Counted}
+use Rattle.counts.proofs.Exact.{Counted}
 use Rattle.distr.proofs.BitSums.{first-ones, second-ones}
 use Rattle.counts.proofs.Sums.{bit, sum, sum-ext, sum-zero, sum-const, sum-add, sum-product, sum-reverse, same-eq, same-refl}
 use Rattle.counts.proofs.Products.{ways}

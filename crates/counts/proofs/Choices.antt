@@ -1,5 +1,5 @@
 -- Choices among several values, one after the other: what is read is a draw list of the box, and every one is carried by some words.
-use mathlib.Core.Path.{_≡_, refl, sym, ap, ap₂, _∙_}
+use mathlib.Core.Path.{_≡_, refl, sym, ap, ap₂, subst, _∙_}
 use mathlib.Core.Bool.{Bool, true, false, cond, _&&_}
 use mathlib.Core.List.{List, [], _∷_}
 use Prim.Native.Nat.{ℕ, _+_, _*_, _/_, _%_, _^_, _<_, _≤_}
@@ -10,10 +10,10 @@ use lib.Arith.{digits-mod, digits-lt}
 use lib.Dec.{T, leb, ltb, eqb, leb→le, ltb→lt, lt→ltb, eqb→eq, eqb-refl}
 use lib.Ieee.Fits.{and-i, and-l, and-r}
 use Rattle.distr.specs.Words.{Read, got, short, mapRead, bindRead, areWords, choose, chooseEach}
-use Rattle.counts.specs.Demand3.{inBox, FairChoice, Gives}
-use Rattle.distr.proofs.Reading.{chose}
+use Rattle.counts.specs.DrawLists.{Exactly, inBox}
+use Rattle.distr.proofs.Reading.{chose, short-not-got}
 use Rattle.counts.proofs.Sums.{bit, sum, sum-ext, sum-append, sum-product, sum-single, sum-const, sum-zero, inBox-cons}
-use Rattle.counts.proofs.Exact.{below-exactly}
+use Rattle.counts.proofs.Exact.{exactly-as, below-exactly}
 
 -- each number of a list is a good number of choices, 1 to 2^32
 unfoldable pub choosable : List ℕ → Bool
@@ -34,9 +34,6 @@ pub box-cons : (k s : ℕ) (ks ss : List ℕ) → T (inBox (k ∷ ks) (s ∷ ss)
 unfolding inBox
 box-cons k s ks ss t = (ltb→lt s k (and-l (ltb s k) (inBox ks ss) t), and-r (ltb s k) (inBox ks ss) t)
 
-pub never-got : {A : Type 0} (a : A) (rest : List ℕ) → short ≡ got a rest → ⊥
-never-got a rest e = let z : _≡_ {A = ℕ} 0 1 = cc in omega arith
-
 pub choices-boxed : (ks ws ss rest : List ℕ) → T (choosable ks) → chooseEach ks ws ≡ got ss rest → T (inBox ks ss)
 unfolding chooseEach inBox mapRead bindRead
 choices-boxed [] ws ss rest t e = let none : ss ≡ [] = cc in rw none tt
@@ -50,12 +47,12 @@ choices-boxed (k ∷ ks) ws ss rest t e =
         → mapRead (λ ts. s ∷ ts) r ≡ got ss rest → T (inBox (k ∷ ks) ss)
     later ih s left b (got ts left′) f e =
         let both : ss ≡ s ∷ ts = cc in rw both (inBox-cons s k ts ks b (ih left ts left′ f))
-    later ih s left b short f e = absurd (never-got ss rest e)
+    later ih s left b short f e = absurd (short-not-got e)
 
     first : Rec → (r : Read ℕ) → choose k ws ≡ r → bindRead r (λ s left. mapRead (λ ts. s ∷ ts) (chooseEach ks left)) ≡ got ss rest
         → T (inBox (k ∷ ks) ss)
     first ih (got s left) c e = later ih s left (chose k ws s left c .below) (chooseEach ks left) refl e
-    first ih short c e = absurd (never-got ss rest e)
+    first ih short c e = absurd (short-not-got e)
 
 -- a value below k is accepted as a word, for a k up to N
 accepts : (N k : ℕ) → 1 ≤ k → k ≤ N → (s : ℕ) → s < k → s < k * (N / k)
@@ -106,35 +103,37 @@ gives-count N k r h =
         (λ d a. rw (le-ltb (N / k * k + d) (k * (N / k)) (omega (arith, mul-comm k (N / k)))))
         ∙ sum-zero (N % k)
 
--- one word: each value of a choice comes from exactly ⌊2^32/k⌋ words, and every other word is skipped
-pub fair-choice : (k : ℕ) → 1 ≤ k → k ≤ 2 ^ 32 → FairChoice k
-unfolding choose
-fair-choice k l u = record {
-  each = λ r h.
-      let e = below-exactly (2 ^ 32) (gives (2 ^ 32) k r) in
-      record {
-        members = e .members;
-        distinct = e .distinct;
-        size = e .size ∙ gives-count (2 ^ 32) k r h;
-        sound = λ w m. (e .sound w m .0, to-gives r w (e .sound w m .1));
-        complete = λ w p. e .complete w (p .0, from-gives r w (p .1));
-      };
-  others = λ w h none ws. skips w none ws (ltb w (k * (2 ^ 32 / k))) refl;
-}
-  where
-    to-gives : (r w : ℕ) → T (gives (2 ^ 32) k r w) → Gives k w r
-    to-gives r w t ws =
-        let accepted = lt-ltb w (k * (2 ^ 32 / k)) (ltb→lt w (k * (2 ^ 32 / k)) (and-l (ltb w (k * (2 ^ 32 / k))) (eqb (w % k) r) t)) in
-        rw (accepted, eqb→eq (w % k) r (and-r (ltb w (k * (2 ^ 32 / k))) (eqb (w % k) r) t))
+-- one word: what it gives, whatever follows
+module _ (k : ℕ) (l : 1 ≤ k) where
+  abbrev Gives : ℕ → ℕ → Type 0
+  Gives w r = (ws : List ℕ) → choose k (w ∷ ws) ≡ got r ws
 
-    from-gives : (r w : ℕ) → Gives k w r → T (gives (2 ^ 32) k r w)
-    from-gives r w g = judged (ltb w (k * (2 ^ 32 / k))) (g [])
-      where
-        judged : (b : Bool) → cond b (got (w % k) []) short ≡ got r [] → T (b && eqb (w % k) r)
-        judged true e = let rest : w % k ≡ r = cc in rw rest (eqb-refl r)
-        judged false e = never-got r [] e
+  to-gives : (r w : ℕ) → T (gives (2 ^ 32) k r w) → Gives w r
+  unfolding choose
+  to-gives r w t ws =
+      let accepted = lt-ltb w (k * (2 ^ 32 / k)) (ltb→lt w (k * (2 ^ 32 / k)) (and-l (ltb w (k * (2 ^ 32 / k))) (eqb (w % k) r) t)) in
+      rw (accepted, eqb→eq (w % k) r (and-r (ltb w (k * (2 ^ 32 / k))) (eqb (w % k) r) t))
 
-    skips : (w : ℕ) → ((r : ℕ) → r < k → Gives k w r → ⊥) → (ws : List ℕ) (b : Bool) → ltb w (k * (2 ^ 32 / k)) ≡ b
-        → choose k (w ∷ ws) ≡ choose k ws
-    skips w none ws true t = absurd (none (w % k) (mod-lt w l) (λ ws. rw t))
-    skips w none ws false t = rw t
+  from-gives : (r w : ℕ) → Gives w r → T (gives (2 ^ 32) k r w)
+  unfolding choose
+  from-gives r w g = judged (ltb w (k * (2 ^ 32 / k))) (g [])
+    where
+      judged : (b : Bool) → cond b (got (w % k) []) short ≡ got r [] → T (b && eqb (w % k) r)
+      judged true e = let rest : w % k ≡ r = cc in rw rest (eqb-refl r)
+      judged false e = short-not-got e
+
+  -- each value of a choice comes from exactly ⌊2^32/k⌋ words
+  pub choice-each : (r : ℕ) → r < k → Exactly ℕ (2 ^ 32 / k) (λ w. (w < 2 ^ 32) × Gives w r)
+  choice-each r h =
+      exactly-as (subst (λ (N : ℕ). Exactly ℕ N (λ w. T (ltb w (2 ^ 32)) × T (gives (2 ^ 32) k r w))) (gives-count (2 ^ 32) k r h) (below-exactly (2 ^ 32) (gives (2 ^ 32) k r)))
+      (λ w p. (ltb→lt w (2 ^ 32) (p .0), to-gives r w (p .1)))
+      (λ w p. (lt→ltb w (2 ^ 32) (p .0), from-gives r w (p .1)))
+
+  -- and every other word is skipped
+  pub choice-others : (w : ℕ) → ((r : ℕ) → r < k → Gives w r → ⊥) → (ws : List ℕ) → choose k (w ∷ ws) ≡ choose k ws
+  unfolding choose
+  choice-others w none ws = skips (ltb w (k * (2 ^ 32 / k))) refl
+    where
+      skips : (b : Bool) → ltb w (k * (2 ^ 32 / k)) ≡ b → choose k (w ∷ ws) ≡ choose k ws
+      skips true t = absurd (none (w % k) (mod-lt w l) (λ ws. rw t))
+      skips false t = rw t

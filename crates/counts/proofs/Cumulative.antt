@@ -12,11 +12,11 @@ use lib.Dec.{T, leb, ltb, eqb, leb→le, le→leb, ltb→lt, lt→ltb, eqb→eq,
 use lib.ListN.{getD}
 use lib.Ieee.Fits.{and-i, and-l, and-r, eq→eqb}
 use lib.IntN.{ℤ, pos, negsuc}
-use Rattle.distr.specs.Gaussian.{cumulativeTable, magnitude, signed, cumulativeValue, cumulative}
+use Rattle.distr.specs.Gaussian.{cumulativeTable, magnitude, withSign, cumulativeValue, cumulative}
 use Rattle.distr.proofs.Rising.{Rising, is-rising, rises, Largest, largest}
 use Rattle.counts.specs.Inside.{same, within, listOf}
 use Rattle.counts.specs.Formula.{productOf, cumulativeWays}
-use Rattle.counts.specs.Demand3.{Counted}
+use Rattle.counts.proofs.Exact.{Counted}
 use Rattle.counts.proofs.Sums.{bit, sum, sum-ext, sum-zero, sum-const, sum-append, bit-and}
 use Rattle.counts.proofs.Products.{ways}
 use Rattle.counts.proofs.WideWords.{wide-counted}
@@ -184,17 +184,17 @@ module _ (r M : ℕ) (bounds : List ℕ) (first : getD bounds 0 0 ≡ 0)
 
 -- ---- the sign of a word
 
-same-zero : (p : Bool) (x : ℕ) → same (signed p x) (pos 0) ≡ (true && eqb x 0)
+same-zero : (p : Bool) (x : ℕ) → same (withSign p x) (pos 0) ≡ (true && eqb x 0)
 same-zero true x = refl
 same-zero false zero = refl
 same-zero false (suc x) = sym (eqb·suc-zero x)
 
-same-plus : (p : Bool) (x m : ℕ) → same (signed p x) (pos (suc m)) ≡ (p && eqb x (suc m))
+same-plus : (p : Bool) (x m : ℕ) → same (withSign p x) (pos (suc m)) ≡ (p && eqb x (suc m))
 same-plus true x m = refl
 same-plus false zero m = eqb·zero-suc m
 same-plus false (suc x) m = refl
 
-same-minus : (p : Bool) (x m : ℕ) → same (signed p x) (negsuc m) ≡ (not p && eqb x (suc m))
+same-minus : (p : Bool) (x m : ℕ) → same (withSign p x) (negsuc m) ≡ (not p && eqb x (suc m))
 same-minus true x m = refl
 same-minus false zero m = sym (eqb·zero-suc m)
 same-minus false (suc x) m = sym (eqb·suc-suc x m)

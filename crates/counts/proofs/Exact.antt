@@ -4,13 +4,13 @@ use mathlib.Core.Logic.{_⊎_, inl, inr, ⊎-elim, ⊎-map}
 use mathlib.Core.Bool.{Bool, true, false, cond}
 use mathlib.Core.List.{List, [], _∷_, _++_, map}
 use Prim.Native.Nat.{ℕ, zero, suc, _+_, _<_}
-use native.Mathlib.Nat.{suc-ne-zero, not-suc-le-zero, lt-irrefl, lt-suc-self, le-step, le-of-suc-le-suc, eq-or-lt-of-le}
+use native.Mathlib.Nat.{not-suc-le-zero, lt-irrefl, lt-suc-self, le-step, le-of-suc-le-suc, eq-or-lt-of-le}
 use lib.Dec.{T, ltb, ltb→lt, lt→ltb}
-use lib.ListN.{length, length-append, length-map}
+use lib.ListN.{length-append, length-map}
 use lib.Ieee.Fits.{and-l, and-r}
 use lib.IntN.{ℤ}
 use Rattle.distr.specs.Rule.{Rule}
-use Rattle.counts.specs.Demand3.{Exactly, Member, Distinct, inBox, Carries, Counted}
+use Rattle.counts.specs.DrawLists.{Exactly, Member, Distinct, inBox, Carries}
 use Rattle.counts.proofs.Sums.{bit, sum, cnt, sameList, inBox-cons, sameList-eq, sameList-refl}
 
 -- ---- members of lists
@@ -40,12 +40,6 @@ module _ {A : Type 0} where
     λ m. ⊎-elim (p .0) (apart x (inl refl)) (member-cases x xs ys m),
     distinct-append xs ys (p .1) q (λ a m n. apart a (inr m) n),
   )
-
-  -- a list that has a member is not empty
-  member-empty : (a : A) (xs : List A) → length xs ≡ 0 → Member a xs → ⊥
-  unfolding Member
-  member-empty a [] e m = m
-  member-empty a (x ∷ xs) e m = suc-ne-zero (length xs) e
 
 module _ {A B : Type 0} (f : A → B) where
   member-map : (a : A) (xs : List A) → Member a xs → Member (f a) (map f xs)
@@ -176,6 +170,15 @@ below-exactly r P =
 abbrev pub reached : Rule → List ℤ → ℕ
 reached rule cs = cnt (rule .ranges) (λ ds. bit (sameList (rule .decode ds) cs))
 
+-- The count of a rule's draw lists by what they decode to: demand 3 follows from it and the contract of the draw.
+pub record Counted (ρ : Rule) (inside : List ℤ → Bool) (formula : List ℤ → ℕ) : Type 0 where
+  -- exactly as many draw lists as the formula says give a list inside the distribution, and none gives one outside
+  pub exactly : (cs : List ℤ) → Exactly (List ℕ) (cond (inside cs) (formula cs) 0) (λ ds. T (inBox (ρ .ranges) ds) × (ρ .decode ds ≡ cs))
+  -- every draw list is carried by some words
+  pub carried : (ds : List ℕ) → T (inBox (ρ .ranges) ds) → (words : List ℕ) × (rest : List ℕ) × Carries ρ words 0 ds rest
+  -- and whatever is read is a draw list
+  pub boxed : (words : List ℕ) (place : ℕ) (ds rest : List ℕ) → Carries ρ words place ds rest → T (inBox (ρ .ranges) ds)
+
 -- a rule whose sums are the formula inside and 0 outside, whose draw lists are carried and whose readings are draw lists, is counted
 pub counted : (rule : Rule) (inside : List ℤ → Bool) (formula : List ℤ → ℕ)
     → ((cs : List ℤ) → reached rule cs ≡ cond (inside cs) (formula cs) 0)
@@ -183,25 +186,11 @@ pub counted : (rule : Rule) (inside : List ℤ → Bool) (formula : List ℤ →
     → ((words : List ℕ) (place : ℕ) (ds rest : List ℕ) → Carries rule words place ds rest → T (inBox (rule .ranges) ds))
     → Counted rule inside formula
 counted rule inside formula sums carried boxed = record {
-  exactly = λ cs t.
-      subst (λ (N : ℕ). Exactly (List ℕ) N (λ ds. T (inBox (rule .ranges) ds) × (rule .decode ds ≡ cs)))
-      (sums cs ∙ passed (inside cs) (formula cs) t)
+  exactly = λ cs.
+      subst (λ (N : ℕ). Exactly (List ℕ) N (λ ds. T (inBox (rule .ranges) ds) × (rule .decode ds ≡ cs))) (sums cs)
       (exactly-as (box-exactly (rule .ranges) (λ ds. sameList (rule .decode ds) cs))
       (λ ds p. (p .0, sameList-eq (rule .decode ds) cs (p .1)))
       (λ ds p. (p .0, rw (p .1, sameList-refl cs) tt)));
-  none-outside = λ ds b. outside ds b (inside (rule .decode ds)) refl;
   carried = carried;
   boxed = boxed;
 }
-  where
-    passed : (t : Bool) (x : ℕ) → T t → cond t x 0 ≡ x
-    passed true x t = refl
-    passed false x t = absurd t
-
-    outside : (ds : List ℕ) → T (inBox (rule .ranges) ds) → (t : Bool) → inside (rule .decode ds) ≡ t → T t
-    outside ds b true e = tt
-    outside ds b false e =
-        let cs = rule .decode ds in
-        let x = box-exactly (rule .ranges) (λ es. sameList (rule .decode es) cs) in
-        member-empty ds (x .members) (x .size ∙ sums cs ∙ ap (λ (t : Bool). cond t (formula cs) 0) e)
-        (x .complete ds (b, subst T (sym (sameList-refl cs)) tt))

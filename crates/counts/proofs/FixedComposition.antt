@@ -14,7 +14,7 @@ use Rattle.distr.specs.Packed.{minusOne}
 use Rattle.distr.specs.Insertion.{insertion, fixedComposition}
 use Rattle.counts.specs.Inside.{same, tally, within, listOf}
 use Rattle.counts.specs.Formula.{factorial, compositionFormula}
-use Rattle.counts.specs.Demand3.{Counted}
+use Rattle.counts.proofs.Exact.{Counted}
 use Rattle.distr.proofs.Writing.{map-append, map-replicate}
 use Rattle.counts.proofs.Sums.{bit, sameList}
 use Rattle.counts.proofs.InsertionLaw.{undo, tallyBy, inserting, inserting-append}

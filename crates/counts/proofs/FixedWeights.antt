@@ -13,9 +13,9 @@ use Rattle.distr.specs.Packed.{minusOne, signsAlone}
 use Rattle.distr.specs.Insertion.{countUp, signBefore, insertSigned, insertion, fixedComposition, fixedBinaryWeight, signedInsertion, fixedTernaryWeight}
 use Rattle.counts.specs.Inside.{same, tally, every, isBit, within, listOf}
 use Rattle.counts.specs.Formula.{factorial, compositionFormula}
-use Rattle.counts.specs.Demand3.{inBox, Counted}
+use Rattle.counts.specs.DrawLists.{inBox}
 use Rattle.counts.proofs.Sums.{bit, cnt, sameList, and-assoc}
-use Rattle.counts.proofs.Exact.{counted}
+use Rattle.counts.proofs.Exact.{Counted, counted}
 use Rattle.counts.proofs.WideWords.{counted-as}
 use Rattle.counts.proofs.Choices.{choosable}
 use Rattle.counts.proofs.Packed.{signs-alone-counted}

@@ -13,9 +13,8 @@ use Rattle.distr.specs.Packed.{minusOne, signValue}
 use Rattle.distr.specs.Insertion.{countUp, inserted, insertEach, insertSigned, signBefore, insertion}
 use Rattle.counts.specs.Inside.{same}
 use Rattle.counts.specs.Formula.{factorial}
-use Rattle.counts.specs.Demand3.{Counted}
 use Rattle.counts.proofs.Sums.{bit, sum, sum-ext, sum-mul-right, cnt, sameList}
-use Rattle.counts.proofs.Exact.{counted}
+use Rattle.counts.proofs.Exact.{Counted, counted}
 use Rattle.counts.proofs.Choices.{choosable, choices-boxed, choices-carried, choices-are-words}
 use Rattle.counts.proofs.InsertionLaw.{undo, tallyBy, lastInto, inserting, inserting-ext, inserting-sum}
 use Rattle.counts.proofs.InsertionLaw.{length-inserted, last-insertion, lastInto-join, tally-places}

@@ -16,5 +16,3 @@ pub mod Blocks
 pub mod CenteredBinomial
 pub mod Cumulative
 pub mod Requests
-pub mod Reached
-pub mod Instances

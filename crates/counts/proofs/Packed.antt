@@ -16,10 +16,10 @@ use Rattle.distr.specs.Words.{got, short, mapRead, areWords, many, word}
 use Rattle.distr.specs.Packed.{digits, split, packed, uniformBinary, sparseTernary, sparseValue, signsAlone, signValue}
 use Rattle.counts.specs.Inside.{same, every, listOf, isBit, within, tally}
 use Rattle.counts.specs.Formula.{productOf}
-use Rattle.counts.specs.Demand3.{inBox, Carries, Counted}
+use Rattle.counts.specs.DrawLists.{inBox, Carries}
 use Rattle.distr.proofs.Reading.{many-word}
 use Rattle.counts.proofs.Sums.{sum}
-use Rattle.counts.proofs.Exact.{counted}
+use Rattle.counts.proofs.Exact.{Counted, counted}
 use Rattle.counts.proofs.Products.{ways, map-law, product-tally, product-ones}
 use Rattle.counts.proofs.WideWords.{counted-as}
 

@@ -2,19 +2,17 @@
 -- another, every draw list is carried by some words, and whatever is read is a draw list.
 use mathlib.Core.Path.{_≡_}
 use mathlib.Core.Bool.{Bool, true, false, not, cond, _&&_, _||_}
-use mathlib.Core.List.{List, [], _∷_}
+use mathlib.Core.List.{[], _∷_}
 use Prim.Native.Nat.{ℕ, zero, suc, _+_, _-_, _%_, _^_, _≤_, _<_}
 use native.Mathlib.Omega.{arith}
 use lib.Dec.{T, leb, ltb, eqb, eqb→eq, nltb→le, leb→le}
-use lib.IntN.{ℤ}
 use lib.Ieee.{Float, binary64, sub, lt}
-use lib.Ieee.Fits.{and-l, and-r}
+use lib.Ieee.Fits.{and-r}
 use Rattle.distr.specs.declared.secret_key_distr.SecretKeyDistr.{SecretKeyDistr}
 use Rattle.distr.specs.declared.secret_key_distr.SecretKeyDistr.the-variants.{UniformBinary, Binary, SparseTernary, UniformTernary, Ternary, FixedHammingWeightBinary, BlockBinary, FixedHammingWeightTernary, FixedCompositionTernary, Gaussian}
 use Rattle.distr.specs.declared.error_distribution.ErrorDistribution.{ErrorDistribution}
 use Rattle.distr.specs.declared.error_distribution.ErrorDistribution.the-variants.{CenteredBinomial, Gaussian as ErrorGaussian}
 use Rattle.distr.specs.Thresholds.{threshold}
-use Rattle.distr.specs.Insertion.{fixedComposition}
 use Rattle.distr.specs.Gaussian.{literal, support, cumulativeLimit, cumulativeTable}
 use Rattle.distr.specs.Layered.{layerTables}
 use Rattle.distr.specs.Distribution.{Distr, secret, error, Tables, onDeviation, isLayered, secretRule, errorRule, rule}
@@ -22,11 +20,12 @@ use Rattle.distr.specs.Making.{refuse, badProbability, badProbabilities, badBlo
 use Rattle.distr.specs.Numbers.{firstOf, tooLong, badWeight, lengthNumber, gaussianTable, tableNumber, signedNumbers}
 use Rattle.distr.proofs.Drawing.{first-passed}
 use Rattle.counts.specs.Inside.{insideSecret, inside}
-use Rattle.counts.specs.Formula.{compositionFormula, secretFormula, formula}
-use Rattle.counts.specs.Demand3.{Exactly, inBox, accepted, Counted}
+use Rattle.counts.specs.Formula.{secretFormula, formula}
+use Rattle.counts.proofs.Exact.{Counted}
 use Rattle.counts.proofs.FixedComposition.{composition-counted}
 use Rattle.counts.proofs.FixedWeights.{binary-weight-counted, ternary-weight-counted}
-use Rattle.counts.proofs.Thresholds.{binary-counted, ternary-counted, threshold-le}
+use Rattle.distr.proofs.Probabilities.{threshold-le}
+use Rattle.counts.proofs.Thresholds.{binary-counted, ternary-counted}
 use Rattle.counts.proofs.Blocks.{block-binary-counted}
 use Rattle.counts.proofs.Cumulative.{cumulative-counted}
 use Rattle.counts.proofs.Packed.{uniform-binary-counted, sparse-ternary-counted}
@@ -50,18 +49,16 @@ pub record Passed (d : Distr) (n : ℕ) (tables : Tables) : Type 0 where
   pub table-fits : tableNumber d tables ≡ 0
   pub no-layers : T (not (isLayered d))
 
-pub what-passed : (d : Distr) (n : ℕ) (tables : Tables) → T (accepted d n tables) → Passed d n tables
-what-passed d n tables t =
-    let numbers = eqb (firstOf (signedNumbers d tables n)) 0 in
-    let two = and-l (eqb (makingNumber d) 0 && numbers) (not (isLayered d)) t in
-    let first = first-passed (tooLong n) (lengthNumber d n ∷ tableNumber d tables ∷ []) (eqb→eq _ 0 (and-r (eqb (makingNumber d) 0) numbers two)) in
+pub what-passed : (d : Distr) (n : ℕ) (tables : Tables) → makingNumber d ≡ 0 → T (not (isLayered d)) → firstOf (signedNumbers d tables n) ≡ 0 → Passed d n tables
+what-passed d n tables made no-layers numbers =
+    let first = first-passed (tooLong n) (lengthNumber d n ∷ tableNumber d tables ∷ []) numbers in
     let second = first-passed (lengthNumber d n) (tableNumber d tables ∷ []) (first .1) in
     record {
-      made = eqb→eq (makingNumber d) 0 (and-l (eqb (makingNumber d) 0) numbers two);
+      made = made;
       short-enough = nltb→le 65536 n (passed (ltb 65536 n) 5 (first .0));
       length-fits = second .0;
       table-fits = first-passed (tableNumber d tables) [] (second .1) .0;
-      no-layers = and-r (eqb (makingNumber d) 0 && numbers) (not (isLayered d)) t;
+      no-layers = no-layers;
     }
 
 not-zero : (n : ℕ) → T (not (eqb n 0)) → 0 < n
@@ -122,21 +119,8 @@ by-error (ErrorGaussian deviation) n tables p =
 by-error (CenteredBinomial eta) n tables p =
     centered-binomial-counted eta n (leb→le eta 32 (and-r (leb 1 eta) (leb eta 32) (not-not (leb 1 eta && leb eta 32) (passed (not (leb 1 eta && leb eta 32)) 3 (p .made)))))
 
-pub requests-counted : (d : Distr) (n : ℕ) (tables : Tables) → T (accepted d n tables)
+pub requests-counted : (d : Distr) (n : ℕ) (tables : Tables) → Passed d n tables
     → Counted (rule d n (tables .bounds)) (inside d n) (formula d n (tables .bounds))
 unfolding rule inside formula
-requests-counted (secret d) n tables t = by-secret d n tables (what-passed (secret d) n tables t)
-requests-counted (error d) n tables t = by-error d n tables (what-passed (error d) n tables t)
-
--- "Any two keys of one fixed composition are reached by equally many draw lists."
-pub compositions-alike : (minus ones n : ℕ) (tables : Tables) (cs cs′ : List ℤ)
-    → T (accepted (secret (FixedCompositionTernary minus ones)) n tables)
-    → T (inside (secret (FixedCompositionTernary minus ones)) n cs)
-    → T (inside (secret (FixedCompositionTernary minus ones)) n cs′)
-    → (N : ℕ)
-    × Exactly (List ℕ) N (λ ds. T (inBox (fixedComposition minus ones n .ranges) ds) × (fixedComposition minus ones n .decode ds ≡ cs))
-    × Exactly (List ℕ) N (λ ds. T (inBox (fixedComposition minus ones n .ranges) ds) × (fixedComposition minus ones n .decode ds ≡ cs′))
-unfolding rule secretRule formula secretFormula
-compositions-alike minus ones n tables cs cs′ t i i′ =
-    let all = requests-counted (secret (FixedCompositionTernary minus ones)) n tables t in
-    (compositionFormula minus ones (n - (minus + ones)), all .exactly cs i, all .exactly cs′ i′)
+requests-counted (secret d) n tables p = by-secret d n tables p
+requests-counted (error d) n tables p = by-error d n tables p

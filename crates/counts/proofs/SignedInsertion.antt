@@ -10,10 +10,10 @@ use lib.ListN.{replicate}
 use Rattle.distr.specs.Words.{Read, got, short, mapRead, bindRead, areWords, word, choose, chooseEach}
 use Rattle.distr.specs.Packed.{digits}
 use Rattle.distr.specs.Insertion.{signs, chooseSigned, signBefore}
-use Rattle.counts.specs.Demand3.{inBox}
-use Rattle.distr.proofs.Reading.{chose}
+use Rattle.counts.specs.DrawLists.{inBox}
+use Rattle.distr.proofs.Reading.{chose, short-not-got}
 use Rattle.counts.proofs.Sums.{inBox-cons}
-use Rattle.counts.proofs.Choices.{choosable, choices-carried, choices-are-words, box-cons, never-got}
+use Rattle.counts.proofs.Choices.{choosable, choices-carried, choices-are-words, box-cons}
 use Rattle.counts.proofs.Packed.{joined, joined-below, digits-joined, digits-boxed}
 
 -- a sign b and a choice among k before a later reading
@@ -27,18 +27,18 @@ sign-step k b rs later l ih ws ds rest e = first (choose k ws) refl e
         → T (inBox (2 ∷ k ∷ rs) ds)
     after s left u (got ts end) f e =
         let all : ds ≡ b ∷ s ∷ ts = cc in rw all (inBox-cons b 2 (s ∷ ts) (k ∷ rs) l (inBox-cons s k ts rs u (ih left ts end f)))
-    after s left u short f e = absurd (never-got ds rest e)
+    after s left u short f e = absurd (short-not-got e)
 
     first : (r : Read ℕ) → choose k ws ≡ r → bindRead r (λ s left. mapRead (λ ts. b ∷ s ∷ ts) (later left)) ≡ got ds rest → T (inBox (2 ∷ k ∷ rs) ds)
     first (got s left) c e = after s left (chose k ws s left c .below) (later left) refl e
-    first short c e = absurd (never-got ds rest e)
+    first short c e = absurd (short-not-got e)
 
 -- whatever is read is a sign below 2 and a choice below each number; j signs are at hand
 pub signed-boxed : (ks : List ℕ) (j : ℕ) (bits ws ds rest : List ℕ) → T (inBox (replicate j 2) bits)
     → chooseSigned ks bits ws ≡ got ds rest → T (inBox (signBefore ks) ds)
 unfolding chooseSigned signs word signBefore inBox digits mapRead bindRead
 signed-boxed [] j bits ws ds rest t e = let none : ds ≡ [] = cc in rw none tt
-signed-boxed (k ∷ ks) zero [] [] ds rest t e = absurd (never-got ds rest e)
+signed-boxed (k ∷ ks) zero [] [] ds rest t e = absurd (short-not-got e)
 signed-boxed (k ∷ ks) zero [] (w ∷ ws) ds rest t e =
     sign-step k (w % 2) (signBefore ks) (chooseSigned ks (digits 2 31 (w / 2))) (omega arith)
     (λ left ts end. signed-boxed ks 31 (digits 2 31 (w / 2)) left ts end (digits-boxed 2 31 (w / 2) (omega arith))) ws ds rest e
@@ -94,7 +94,7 @@ choose-itself k s rest t h = go (ltb s (k * (2 ^ 32 / k))) (choices-carried (k �
     go true e =
         let z : s % k ≡ s = cc in
         ap (λ (x : ℕ). got x rest) z
-    go false e = absurd (never-got (s ∷ []) [] e)
+    go false e = absurd (short-not-got e)
 
 word-itself : (k s : ℕ) → T (choosable (k ∷ [])) → s < k → T (ltb s (2 ^ 32))
 unfolding areWords inBox

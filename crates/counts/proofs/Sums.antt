@@ -12,7 +12,7 @@ use lib.Dec.{T, leb, ltb, eqb, eqb→eq, leb·zero}
 use lib.ListN.{length}
 use lib.Ieee.Fits.{and-l, and-r}
 use lib.IntN.{ℤ, pos, negsuc}
-use Rattle.counts.specs.Demand3.{inBox}
+use Rattle.counts.specs.DrawLists.{inBox}
 use Rattle.counts.specs.Inside.{same}
 
 -- 1 where a test holds, else 0

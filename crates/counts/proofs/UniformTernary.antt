@@ -15,14 +15,15 @@ use lib.Ieee.Fits.{and-i}
 use lib.IntN.{ℤ, pos, negsuc}
 use Rattle.distr.specs.Words.{Read, got, short, mapRead, areWords}
 use Rattle.distr.specs.Packed.{digits, split}
-use Rattle.distr.specs.UniformTernary.{accepted, bytes, tritValue, uniformTernary}
+use Rattle.distr.specs.UniformTernary.{acceptedBytes, bytes, tritValue, uniformTernary}
 use Rattle.counts.specs.Inside.{within, listOf}
 use Rattle.counts.specs.Formula.{productOf}
-use Rattle.counts.specs.Demand3.{inBox, Carries, Counted}
+use Rattle.counts.specs.DrawLists.{inBox, Carries}
+use Rattle.distr.proofs.Reading.{short-not-got}
 use Rattle.counts.proofs.Sums.{bit, sum, cnt, sameList, sum-ext, sum-swap, sum-product, sum-mul-left, sum-const, cnt-append, inBox-cons}
 use Rattle.counts.proofs.Products.{ways, map-law, product-ones}
-use Rattle.counts.proofs.Exact.{counted}
-use Rattle.counts.proofs.Choices.{box-cons, never-got}
+use Rattle.counts.proofs.Exact.{Counted, counted}
+use Rattle.counts.proofs.Choices.{box-cons}
 
 -- the digits of the numbers below b^c are all lists of c digits, each once
 pub digits-law : (b c : ℕ) (f : List ℕ → ℕ) → sum (b ^ c) (λ d. f (digits b c d)) ≡ cnt (replicate c b) f
@@ -110,8 +111,8 @@ carriers-are-words (suc m) (d ∷ ds) t =
     and-i (ltb (d + 0xFFFFFF00) (2 ^ 32)) (areWords (carriers ds)) (lt→ltb (d + 0xFFFFFF00) (2 ^ 32) (omega arith)) (carriers-are-words m ds (box .1))
 
 -- such a word has one accepted byte
-one-byte : (d : ℕ) → d < 243 → accepted (digits 256 4 (d + 0xFFFFFF00)) ≡ d ∷ []
-unfolding accepted digits
+one-byte : (d : ℕ) → d < 243 → acceptedBytes (digits 256 4 (d + 0xFFFFFF00)) ≡ d ∷ []
+unfolding acceptedBytes digits
 one-byte d h =
     let low : (d + 0xFFFFFF00) % 256 ≡ d = omega arith in
     let high : (d + 0xFFFFFF00) / 256 ≡ 0xFFFFFF = omega arith in
@@ -135,26 +136,26 @@ box-wanted b (suc m) (x ∷ xs) ys t u =
     inBox-cons x b (take m xs ++ ys) (replicate m b) (box .0) (box-wanted b m xs ys (box .1) (rw suc-sub-suc at u))
 
 -- the accepted bytes are below 243
-accepted-boxed : (bs : List ℕ) → T (inBox (replicate (length (accepted bs)) 243) (accepted bs))
-unfolding accepted inBox
+accepted-boxed : (bs : List ℕ) → T (inBox (replicate (length (acceptedBytes bs)) 243) (acceptedBytes bs))
+unfolding acceptedBytes inBox
 accepted-boxed [] = tt
 accepted-boxed (b ∷ bs) = judged (accepted-boxed bs) (ltb b 243) refl
   where
-    judged : T (inBox (replicate (length (accepted bs)) 243) (accepted bs)) → (c : Bool) → ltb b 243 ≡ c
-        → let kept = cond c (b ∷ accepted bs) (accepted bs) in T (inBox (replicate (length kept) 243) kept)
-    judged t true e = inBox-cons b 243 (accepted bs) (replicate (length (accepted bs)) 243) (ltb-true b 243 e) t
+    judged : T (inBox (replicate (length (acceptedBytes bs)) 243) (acceptedBytes bs)) → (c : Bool) → ltb b 243 ≡ c
+        → let kept = cond c (b ∷ acceptedBytes bs) (acceptedBytes bs) in T (inBox (replicate (length kept) 243) kept)
+    judged t true e = inBox-cons b 243 (acceptedBytes bs) (replicate (length (acceptedBytes bs)) 243) (ltb-true b 243 e) t
     judged t false e = t
 
 -- as many bytes as are wanted, each below 243
 bytes-boxed : (ws : List ℕ) (m : ℕ) (ds rest : List ℕ) → bytes ws m ≡ got ds rest → T (inBox (replicate m 243) ds)
 unfolding bytes inBox mapRead
 bytes-boxed [] zero ds rest e = let none : ds ≡ [] = cc in rw none tt
-bytes-boxed [] (suc m) ds rest e = absurd (never-got ds rest e)
+bytes-boxed [] (suc m) ds rest e = absurd (short-not-got e)
 bytes-boxed (w ∷ ws) zero ds rest e = let none : ds ≡ [] = cc in rw none tt
 bytes-boxed (w ∷ ws) (suc m) ds rest e = later (bytes-boxed ws (suc m - length found)) (bytes ws (suc m - length found)) refl e
   where
     found : List ℕ
-    found = accepted (digits 256 4 w)
+    found = acceptedBytes (digits 256 4 w)
 
     later : ((es left : List ℕ) → bytes ws (suc m - length found) ≡ got es left → T (inBox (replicate (suc m - length found) 243) es))
         → (r : Read (List ℕ)) → bytes ws (suc m - length found) ≡ r → mapRead (λ es. take (suc m) found ++ es) r ≡ got ds rest
@@ -162,7 +163,7 @@ bytes-boxed (w ∷ ws) (suc m) ds rest e = later (bytes-boxed ws (suc m - length
     later ih (got es left) f e =
         let both : ds ≡ take (suc m) found ++ es = cc in
         rw both (box-wanted 243 (suc m) found es (accepted-boxed (digits 256 4 w)) (ih es left f))
-    later ih short f e = absurd (never-got ds rest e)
+    later ih short f e = absurd (short-not-got e)
 
 -- each list of n coefficients −1, 0, 1 is reached by 3^(5⌈n/5⌉ − n) draw lists, and no other list is reached
 pub uniform-ternary-counted : (n : ℕ) → Counted (uniformTernary n) (λ cs. listOf n (within 1) cs) (λ cs. 3 ^ (5 * ((n + 4) / 5) - n))

@@ -1,5 +1,5 @@
 -- Rules of one 64-bit word a coefficient: carried, boxed, and counted by the ways of each coefficient.
-use mathlib.Core.Path.{_≡_, refl}
+use mathlib.Core.Path.{_≡_, refl, ap, subst, _∙_}
 use mathlib.Core.Bool.{Bool, true, false, cond, _&&_}
 use mathlib.Core.List.{List, [], _∷_}
 use Prim.Native.Nat.{ℕ, zero, suc, _+_, _*_, _/_, _%_, _^_, _<_}
@@ -13,10 +13,10 @@ use Rattle.distr.specs.Words.{Read, got, short, mapRead, bindRead, areWords, ma
 use Rattle.distr.specs.Rule.{Rule, wideWords, constant}
 use Rattle.counts.specs.Inside.{same, every, listOf}
 use Rattle.counts.specs.Formula.{productOf}
-use Rattle.counts.specs.Demand3.{inBox, Carries, Counted}
+use Rattle.counts.specs.DrawLists.{Exactly, inBox, Carries}
 use Rattle.distr.proofs.Reading.{areWords-drop}
 use Rattle.counts.proofs.Sums.{bit, cnt, sameList}
-use Rattle.counts.proofs.Exact.{counted}
+use Rattle.counts.proofs.Exact.{Counted, counted}
 use Rattle.counts.proofs.Products.{ways, map-law}
 
 -- the words that carry 64-bit words, low half first
@@ -125,10 +125,13 @@ pub counted-as : (rule : Rule) (inside inside′ : List ℤ → Bool) (formula f
     → ((cs : List ℤ) → T (inside cs) → formula cs ≡ formula′ cs)
     → Counted rule inside formula → Counted rule inside′ formula′
 counted-as rule inside inside′ formula formula′ p q c = record {
-  exactly = λ cs t.
-      let u : T (inside cs) = rw (p cs) t in
-      rw (← q cs u) (c .exactly cs u);
-  none-outside = λ ds t. rw (p (rule .decode ds)) at (c .none-outside ds t);
+  exactly = λ cs.
+      subst (λ (N : ℕ). Exactly (List ℕ) N (λ ds. T (inBox (rule .ranges) ds) × (rule .decode ds ≡ cs)))
+      (agree (inside cs) (formula cs) (formula′ cs) (q cs) ∙ ap (λ (t : Bool). cond t (formula′ cs) 0) (p cs)) (c .exactly cs);
   carried = c .carried;
   boxed = c .boxed;
 }
+  where
+    agree : (t : Bool) (x y : ℕ) → (T t → x ≡ y) → cond t x 0 ≡ cond t y 0
+    agree true x y e = e tt
+    agree false x y e = refl

@@ -1,4 +1,4 @@
--- "Rules, each with its count": the number of draw lists that reach a coefficient list inside the distribution. Here 0^0 = 1.
+-- "The count is the number of draw lists that reach a list of n coefficients inside the distribution." "Here 0^0 = 1."
 use Prim.Native.Nat.{ℕ, zero, suc, _+_, _*_, _-_, _/_, _^_, min, max}
 use mathlib.Core.Bool.{cond, _||_}
 use mathlib.Core.List.{List, [], _∷_}
@@ -34,7 +34,7 @@ binomial (suc m) (suc k) = binomial m k + binomial m (suc k)
 abbrev pub binaryFormula : ℕ → List ℤ → ℕ
 binaryFormula t cs = cond (eqb t (2 ^ 64)) 1 (t ^ tally (pos 1) cs * (2 ^ 64 - t) ^ tally (pos 0) cs)
 
--- "N^minus × (E−N)^ones × (2^64−E)^zeros"; a constant has count 1.
+-- "N^minus × (E−N)^ones × (2^64−E)^zeros"; "give a constant without reading, count 1".
 abbrev pub ternaryFormula : ℕ → ℕ → List ℤ → ℕ
 ternaryFormula N P cs =
     let E = nonzeroEnd N P in
@@ -63,6 +63,9 @@ cumulativeWays M bounds (pos zero) = intervalEnd M bounds 0 - getD bounds 0 0
 cumulativeWays M bounds (pos (suc m)) = intervalEnd M bounds (suc m) / 2 - getD bounds (suc m) 0 / 2
 cumulativeWays M bounds (negsuc m) = (intervalEnd M bounds (suc m) + 1) / 2 - (getD bounds (suc m) 0 + 1) / 2
 
+-- n is the length, `bounds` the cumulative table, cs the coefficient list. Uniform binary and blocks have count 1; the others: "count 2^zeros";
+-- "count 3^(5⌈n/5⌉−n)"; "count min(h, n−h)!"; "count h!. With h = n only signs are read, count 1." A layered Gaussian makes no request, so its
+-- entry is never used.
 unfoldable pub secretFormula : SecretKeyDistr → ℕ → List ℕ → List ℤ → ℕ
 secretFormula UniformBinary n bounds cs = 1
 secretFormula (Binary p) n bounds cs = binaryFormula (threshold p) cs
@@ -75,6 +78,7 @@ secretFormula (FixedHammingWeightTernary h) n bounds cs = cond (eqb h n) 1 (fact
 secretFormula (FixedCompositionTernary minus ones) n bounds cs = compositionFormula minus ones (n - (minus + ones))
 secretFormula (Gaussian deviation) n bounds cs = productOf (cumulativeWays (support deviation) bounds) cs
 
+-- The formula of a distribution.
 unfoldable pub formula : Distr → ℕ → List ℕ → List ℤ → ℕ
 formula (secret d) n bounds cs = secretFormula d n bounds cs
 formula (error (ErrorGaussian deviation)) n bounds cs = productOf (cumulativeWays (support deviation) bounds) cs

@@ -50,16 +50,16 @@ unfoldable pub everyBlock : ℕ → (List ℤ → Bool) → ℕ → List ℤ →
 everyBlock size ok zero cs = true
 everyBlock size ok (suc k) cs = ok (take size cs) && everyBlock size ok k (drop size cs)
 
--- "With exactly one 1, or at most one, in each block."
+-- "With exactly one 1, or at most one, in each block": the other coefficients are 0, being 0 or 1.
 abbrev pub blockOk : BlockOccupancy → List ℤ → Bool
 blockOk AtMostOne cs = leb (tally (pos 1) cs) 1
 blockOk ExactlyOne cs = eqb (tally (pos 1) cs) 1
 
--- "The constant alone where `Binary` gives it without reading."
+-- "The constant alone where `Binary` or `Ternary` gives it without reading."
 abbrev pub insideBinary : ℕ → ℕ → List ℤ → Bool
 insideBinary t n cs = listOf n (cond (eqb t (2 ^ 64)) (same (pos 1)) isBit) cs
 
--- "The constant alone where `Ternary` gives it without reading."
+-- "N = 2^64, E = 0, P = 2^64 are tried in this order and give a constant without reading": −1, 0, 1.
 abbrev pub insideTernary : ℕ → ℕ → ℕ → List ℤ → Bool
 insideTernary N P n cs =
     listOf n
@@ -68,7 +68,8 @@ insideTernary N P n cs =
     (cond (eqb P (2 ^ 64)) (same (pos 1)) (within 1))))
     cs
 
--- "With the fixed weights exactly (a ternary weight is h that are not 0)."
+-- "Each 0 or 1 in the binary cases, −1..1 in the ternary ones and the composition, −eta..eta or −M..M in the others; with the fixed weights exactly
+-- (a ternary weight is h that are not 0)." A layered Gaussian makes no request, so its entry is never used.
 unfoldable pub insideSecret : SecretKeyDistr → ℕ → List ℤ → Bool
 insideSecret UniformBinary n cs = listOf n isBit cs
 insideSecret (Binary p) n cs = insideBinary (threshold p) n cs
@@ -82,6 +83,7 @@ insideSecret (FixedCompositionTernary minus ones) n cs =
     listOf n (within 1) cs && eqb (tally minusOne cs) minus && eqb (tally (pos 1) cs) ones
 insideSecret (Gaussian deviation) n cs = listOf n (within (support deviation)) cs
 
+-- The list of n coefficients is inside the distribution.
 unfoldable pub inside : Distr → ℕ → List ℤ → Bool
 inside (secret d) n cs = insideSecret d n cs
 inside (error (ErrorGaussian deviation)) n cs = listOf n (within (support deviation)) cs

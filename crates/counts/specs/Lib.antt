@@ -1,4 +1,4 @@
--- What demand 3 counts: which coefficient lists lie inside a distribution, the formula for each, and the claims about draw lists.
+-- What demand 3 counts: a request's draw lists, which coefficient lists lie inside a distribution, and the formula for each.
+pub mod DrawLists
 pub mod Inside
 pub mod Formula
-pub mod Demand3

@@ -21,9 +21,13 @@ module _ (out : List ℕ) (count : ℕ) (moduli : List ℕ) (answer : Answer) {a
   pub finished-rows : answer .number ≡ 0 → after ≡ spread out count moduli → outcome answer after ≡ finished out count moduli answer
   finished-rows e h = rw (eq-eqb (answer .number) 0 e, h)
 
+  -- number 23
+  pub finished-zeros : answer .number ≡ 23 → after ≡ replicate (length out) 0 → outcome answer after ≡ finished out count moduli answer
+  finished-zeros e h = rw (ne-eqb (answer .number) 0 (λ z. omega arith), eq-eqb (answer .number) 23 e, h)
+
   -- another number
-  pub finished-zeros : (answer .number ≡ 0 → ⊥) → after ≡ replicate (length out) 0 → outcome answer after ≡ finished out count moduli answer
-  finished-zeros e h = rw (ne-eqb (answer .number) 0 e, h)
+  pub finished-kept : (answer .number ≡ 0 → ⊥) → (answer .number ≡ 23 → ⊥) → after ≡ out → outcome answer after ≡ finished out count moduli answer
+  finished-kept e f h = rw (ne-eqb (answer .number) 0 e, ne-eqb (answer .number) 23 f, h)
 
 same-outcome : {m n p q : ℕ} {a b : List ℕ} → m ≡ n → p ≡ q → a ≡ b
     → _≡_ {A = Outcome ℕ} (record { number = m; place = p; output = a }) (record { number = n; place = q; output = b })
@@ -47,5 +51,5 @@ finished-settled out count moduli answer most words place (got cs rest) shape h 
     (λ j k. within-more cs (omega (arith, above j k)) few)))
 finished-settled out count moduli answer most words place short shape h passed within e =
     let number : answer .number ≡ 23 = ap (λ (o : Outcome ℕ). o .number) e in
-    rw (ne-eqb (answer .number) 0 (λ z. omega arith))
+    rw (ne-eqb (answer .number) 0 (λ z. omega arith), eq-eqb (answer .number) 23 number)
     (same-outcome number (ap (λ (o : Outcome ℕ). o .place) e) (ap (λ (k : ℕ). replicate k 0) shape ∙ sym (rows-zero moduli count)))

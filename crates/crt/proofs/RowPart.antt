@@ -1,30 +1,70 @@
--- The part of an output that is the row of one modulus: where it lies, and when it is empty.
+-- Where the row of one modulus lies, and what stands there.
 use mathlib.Core.Path.{_≡_, refl, sym, _∙_}
-use mathlib.Core.Bool.{Bool, true, false, _&&_, true≢false}
+use mathlib.Core.Bool.{Bool, true, false, _&&_, cond, true≢false}
 use mathlib.Core.List.{List, []}
 use Prim.Native.Nat.{ℕ, _+_, _*_, _-_, _≤_}
 use native.Mathlib.Omega.{arith}
 use lib.Dec.{ltb, eqb}
 use borrow.Author.Tests.{ltb-true, eqb-true}
 use lib.ListN.{length, take, drop}
-use Rattle.distr.specs.Encoding.{row}
+use denote.Ref.{RefT, now}
+use Rattle.distr.specs.Encoding.{hasRow, rowStart, row}
+use Rattle.crt.specs.Parts.{IsPart, IsRow, rowEnd, IsRowSpan}
 use Rattle.crt.proofs.Shape.{row-inside}
 
 both-true : (a b : Bool) → (a && b) ≡ true → (a ≡ true) × (b ≡ true)
 both-true true b e = (refl, e)
 both-true false b e = absurd (true≢false (sym e))
 
+-- a row ends within the output
+row-room : (n count moduli i : ℕ) → hasRow n count moduli i ≡ true → i * count + count ≤ n
+row-room n count moduli i e =
+    let tests = both-true (eqb n (count * moduli)) (ltb i moduli) e in
+    row-inside n count moduli i (eqb-true n (count * moduli) (tests .0)) (ltb-true i moduli (tests .1))
+
 -- `shaped` is the test of the shape
-module _ (out : List ℕ) (count moduli i : ℕ) (shaped : Bool) (tested : shaped ≡ eqb (length out) (count * moduli)) where
-  pub row-room : (shaped && ltb i moduli) ≡ true → i * count + count ≤ length out
-  row-room e =
-      let tests = both-true shaped (ltb i moduli) e in
-      row-inside (length out) count moduli i (eqb-true (length out) (count * moduli) (sym tested ∙ tests .0)) (ltb-true i moduli (tests .1))
+module _ (n count moduli i : ℕ) (shaped : Bool) (tested : shaped ≡ eqb n (count * moduli)) where
+  pub span-room : (shaped && ltb i moduli) ≡ true → i * count + count ≤ n
+  span-room e = row-room n count moduli i (rw (← tested) e)
 
-  pub row-part : (shaped && ltb i moduli) ≡ true → take (i * count + count - i * count) (drop (i * count) out) ≡ row out count moduli i
-  row-part e =
-      let width : i * count + count - i * count ≡ count = omega arith in
-      rw (← tested, e, width)
+  pub span-row : (shaped && ltb i moduli) ≡ true → IsRowSpan n count moduli i (i * count) (i * count + count)
+  span-row e = record { starts = rw (← tested, e); ends = rw (← tested, e) }
 
-  pub row-empty : (shaped && ltb i moduli) ≡ false → [] ≡ row out count moduli i
-  row-empty e = rw (← tested, e)
+  pub span-empty : (shaped && ltb i moduli) ≡ false → IsRowSpan n count moduli i 0 0
+  span-empty e = record { starts = rw (← tested, e); ends = rw (← tested, e) }
+
+-- a row, or the empty part, lies within the output
+module _ {n count moduli i start end : ℕ} (s : IsRowSpan n count moduli i start end) where
+  pub span-order : start ≤ end
+  span-order = rw (s .starts, s .ends) (go (hasRow n count moduli i))
+    where
+      go : (b : Bool) → cond b (i * count) 0 ≤ cond b (i * count + count) 0
+      go true = omega arith
+      go false = omega arith
+
+  pub span-inside : end ≤ n
+  span-inside = rw (s .ends) (go (hasRow n count moduli i) refl)
+    where
+      go : (b : Bool) → hasRow n count moduli i ≡ b → cond b (i * count + count) 0 ≤ n
+      go true e = row-room n count moduli i e
+      go false e = omega arith
+
+-- what stands there
+row-elements : (out : List ℕ) (count moduli i : ℕ)
+    → take (rowEnd (length out) count moduli i - rowStart (length out) count moduli i) (drop (rowStart (length out) count moduli i) out) ≡ row out count moduli i
+row-elements out count moduli i = go (hasRow (length out) count moduli i)
+  where
+    go : (b : Bool) → take (cond b (i * count + count) 0 - cond b (i * count) 0) (drop (cond b (i * count) 0) out) ≡ cond b (take count (drop (i * count) out)) []
+    go true =
+        let width : i * count + count - i * count ≡ count = omega arith in
+        rw width
+    go false = refl
+
+pub part-row : (output part : RefT (List ℕ)) (count moduli i : ℕ) {start end : ℕ} → IsRowSpan (length (now output)) count moduli i start end
+    → IsPart output start (take (end - start) (drop start (now output))) part → IsRow output count moduli i part
+part-row output part count moduli i s p =
+    record {
+      contents = p .contents ∙ rw (s .starts, s .ends) (row-elements (now output) count moduli i);
+      block = p .block;
+      offset = p .offset ∙ rw (s .starts);
+    }

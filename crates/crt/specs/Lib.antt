@@ -1,2 +1,3 @@
 -- What the functions of the CRT layout compute.
 pub mod Rows
+pub mod Parts

@@ -20,19 +20,22 @@ unfoldable pub nativeRows : List ℕ → List ℕ → List ℕ
 nativeRows [] ws = []
 nativeRows (modulus ∷ moduli) ws = map (fromNative modulus) ws ++ nativeRows moduli ws
 
--- The last `count` elements.
+-- The last elements, as many as coefficients.
 abbrev pub lastRow : List ℕ → ℕ → List ℕ
-lastRow out count = drop (length out - count) out
+lastRow out coefficientCount = drop (length out - coefficientCount) out
 
 -- A row for each modulus, made from the last one; an output of another shape is left as it was.
 unfoldable pub spread : List ℕ → ℕ → List ℕ → List ℕ
-spread out count moduli = cond (eqb (length out) (count * length moduli)) (nativeRows moduli (lastRow out count)) out
+spread out coefficientCount moduli = cond (eqb (length out) (coefficientCount * length moduli)) (nativeRows moduli (lastRow out coefficientCount)) out
 
--- A CRT draw whose last row was drawn with this answer: number 0 spreads the rows, another writes zeros over the output.
+-- A CRT draw whose last row was drawn with this answer: number 0 spreads the rows, "23 keeps the place and writes zeros over the output",
+-- and another leaves the output as it was.
 abbrev pub finished : List ℕ → ℕ → List ℕ → Answer → Outcome ℕ
-finished out count moduli answer =
+finished out coefficientCount moduli answer =
     record {
       number = answer .number;
       place = answer .place;
-      output = cond (eqb (answer .number) 0) (spread out count moduli) (replicate (length out) 0);
+      output =
+          cond (eqb (answer .number) 0) (spread out coefficientCount moduli)
+          (cond (eqb (answer .number) 23) (replicate (length out) 0) out);
     }

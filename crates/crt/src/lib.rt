@@ -1,25 +1,25 @@
-// The CRT layout: a row of residues for each modulus, one row after the other. The coefficients are drawn once, as native
-// residues (-m is 2^64 - m), into the last row; each row is then made from the last one.
+// An inner crate of the library primus_distr: the CRT layout, a row of residues for each modulus, one row after the other. The
+// coefficients are drawn once, as native residues (-m is 2^64 - m), into the last row; each row is then made from the last one.
 use distr::answer::Answer;
 ghost use mathlib.Core.Path.{_≡_};
 ghost use mathlib.Core.List.{_∷_, map};
 ghost use Prim.Native.Nat.{_*_, _-_, _≤_};
 ghost use lib.Dec.{eqb};
-ghost use lib.ListN.{length, drop};
+ghost use lib.ListN.{length, take, drop};
 ghost use lib.Seq.{paste};
-ghost use Rattle.distr.specs.Encoding.{row};
 ghost use Rattle.distr.specs.Numbers.{firstOf, shapeNumber, tooLong, moduliNumbers};
 ghost use Rattle.distr.specs.Draw.{outcome};
 ghost use Rattle.crt.specs.Rows.{fromNative, spread, finished};
+ghost use Rattle.crt.specs.Parts.{IsPart, IsRowSpan, IsRow};
 
-// Whether n is count * rows. Asked by division, since the product may not fit.
-fn has_shape(n: usize, count: usize, rows: usize) -> bool
-    ensures { λ r. ⌜ r ≡ eqb n (count * rows) ⌝ }
+// Whether n is coefficient_count * rows. Asked by division, since the product may not fit.
+fn has_shape(n: usize, coefficient_count: usize, rows: usize) -> bool
+    ensures { λ r. ⌜ r ≡ eqb n («coefficient_count» * rows) ⌝ }
 {
     if rows == 0 {
         return n == 0;
     }
-    (n / rows == count) & (n % rows == 0)
+    (n / rows == coefficient_count) & (n % rows == 0)
 }
 
 // The first number of the moduli, modulus by modulus: 10 for a modulus of 0, 9 for one that does not exceed the largest magnitude.
@@ -40,11 +40,11 @@ fn moduli_number(moduli: &[u64], largest: u64) -> u32
     0
 }
 
-// The number of a CRT output of n elements for `count` coefficients: 11 the shape, 6 too long, then 10 and 9 of the moduli.
-pub fn crt_number(n: usize, count: usize, moduli: &[u64], largest: u64) -> u32
-    ensures { λ r. ⌜ r ≡ firstOf (shapeNumber n count (length (now (moduli .entry))) ∷ tooLong n ∷ moduliNumbers largest (now (moduli .entry))) ⌝ }
+// The number of a CRT output of n elements for `coefficient_count` coefficients: 11 the shape, 6 too long, then 10 and 9 of the moduli.
+pub fn crt_number(n: usize, coefficient_count: usize, moduli: &[u64], largest: u64) -> u32
+    ensures { λ r. ⌜ r ≡ firstOf (shapeNumber n «coefficient_count» (length (now (moduli .entry))) ∷ tooLong n ∷ moduliNumbers largest (now (moduli .entry))) ⌝ }
 {
-    if has_shape(n, count, moduli.len()) {
+    if has_shape(n, coefficient_count, moduli.len()) {
         if 65536 < n {
             return 6;
         }
@@ -77,54 +77,86 @@ fn make_row(output: &mut [u64], at: usize, last: usize, modulus: u64)
 }
 
 // Makes each row from the last one, the last in place. An output of another shape is left as it is.
-pub fn spread_rows(output: &mut [u64], count: usize, moduli: &[u64])
-    ensures { λ r. ⌜ now (output .exit) ≡ spread (now (output .entry)) count (now (moduli .entry)) ⌝ }
+pub fn spread_rows(output: &mut [u64], coefficient_count: usize, moduli: &[u64])
+    ensures { λ r. ⌜ now (output .exit) ≡ spread (now (output .entry)) «coefficient_count» (now (moduli .entry)) ⌝ }
 {
     let n = output.len();
     let rows = moduli.len();
     if rows == 0 {
         return;
     }
-    if has_shape(n, count, rows) {
-        let last = n - count;
+    if has_shape(n, coefficient_count, rows) {
+        let last = n - coefficient_count;
         let mut at = 0;
         let mut i = 0;
         while i < rows {
             let modulus = moduli[i];
             make_row(output, at, last, modulus);
-            at += count;
+            at += coefficient_count;
             i += 1;
         }
     }
 }
 
-// Ends a CRT draw whose last row was drawn with this answer: the rows where it succeeded, zeros over the whole output where it did not.
-pub fn finish(output: &mut [u64], count: usize, moduli: &[u64], answer: Answer) -> Answer
-    ensures { λ r. ⌜ outcome r (now (output .exit)) ≡ finished (now (output .entry)) count (now (moduli .entry)) answer ⌝ }
+// Ends a CRT draw whose last row was drawn with this answer: the rows where it succeeded, zeros over the whole output where a word was
+// not there. Another number leaves the output as it is.
+pub fn finish(
+    output: &mut [u64],
+    coefficient_count: usize,
+    moduli: &[u64],
+    answer: Answer,
+) -> Answer
+    ensures { λ r. ⌜ outcome r (now (output .exit)) ≡ finished (now (output .entry)) «coefficient_count» (now (moduli .entry)) answer ⌝ }
 {
     let number = answer.number;
     if number == 0 {
-        spread_rows(output, count, moduli);
-    } else {
-        fill::clear_u64(output);
+        spread_rows(output, coefficient_count, moduli);
+    } else if number == 23 {
+        output_u64::clear(output);
     }
     answer
 }
 
-// The row of modulus number i, as that part of the output; the empty part at its start for a row out of range or another shape.
+// Where a part of an output starts and where it ends.
+struct Span {
+    start: usize,
+    end: usize,
+}
+
+// Where the row of modulus number i lies in an output of n elements. A row out of range, and another shape, have the empty part at the
+// output's start.
+fn row_span(n: usize, coefficient_count: usize, moduli_count: usize, i: usize) -> Span
+    ensures { λ r. ⌜ IsRowSpan n «coefficient_count» «moduli_count» i (r .start) (r .end) ⌝ }
+{
+    if has_shape(n, coefficient_count, moduli_count) & (i < moduli_count) {
+        let start = i * coefficient_count;
+        let end = start + coefficient_count;
+        return Span { start, end };
+    }
+    Span { start: 0, end: 0 }
+}
+
+// The elements from `start` up to `end`.
+fn part<'a>(output: &'a mut [u64], start: usize, end: usize) -> &'a mut [u64]
+    requires { ⌜ (start ≤ end) × (end ≤ length (now output)) ⌝ }
+    ensures { λ r. ⌜ IsPart (output .entry) start (take (end - start) (drop start (now (output .entry)))) r ⌝ }
+{
+    &mut output[start..end]
+}
+
+// The row of modulus number i, as that part of the output; the empty part at its start for a row out of range or another shape. No
+// contract can say what the rest holds: an output that lives on in the result has no value at exit. The rest is as it was, since
+// `row_span` has lengths alone, with no output to write to, and `part` takes the slice and does nothing else.
 pub fn crt_row<'a>(
     output: &'a mut [u64],
-    count: usize,
+    coefficient_count: usize,
     moduli_count: usize,
     i: usize,
 ) -> &'a mut [u64]
-    ensures { λ r. ⌜ now r ≡ row (now (output .entry)) count «moduli_count» i ⌝ }
+    ensures { λ r. ⌜ IsRow (output .entry) «coefficient_count» «moduli_count» i r ⌝ }
 {
-    if has_shape(output.len(), count, moduli_count) & (i < moduli_count) {
-        let start = i * count;
-        let end = start + count;
-        return &mut output[start..end];
-    }
-    let none = 0;
-    &mut output[none..none]
+    let row = row_span(output.len(), coefficient_count, moduli_count, i);
+    let start = row.start;
+    let end = row.end;
+    part(output, start, end)
 }

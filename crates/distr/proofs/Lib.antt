@@ -5,3 +5,4 @@ pub mod Drawing
 pub mod BitSums
 pub mod Rising
 pub mod Picking
+pub mod Probabilities

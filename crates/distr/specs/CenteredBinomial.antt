@@ -14,15 +14,15 @@ total (x ∷ xs) = x + total xs
 abbrev pub bits : ℕ → List ℕ
 bits w = digits 2 64 w
 
--- "x is the sum of b[j] for j from 0 to eta−1."
+-- "Ones of the low eta bits": the standard's x, the sum of its bits 0 to eta − 1.
 abbrev pub firstSum : ℕ → ℕ → ℕ
 firstSum eta w = total (take eta (bits w))
 
--- "y is the sum of b[eta + j] for j from 0 to eta−1."
+-- "Ones of the next eta bits": the standard's y, the sum of its bits eta to 2 eta − 1.
 abbrev pub secondSum : ℕ → ℕ → ℕ
 secondSum eta w = total (take eta (drop eta (bits w)))
 
--- "x − y", kept as a signed number.
+-- The first sum "minus" the second, kept as a signed number.
 abbrev pub binomialValue : ℕ → ℕ → ℤ
 binomialValue eta w = pos (firstSum eta w) -ℤ pos (secondSum eta w)
 

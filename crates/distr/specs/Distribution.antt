@@ -30,7 +30,7 @@ pub record Tables : Type 0 where
   pub bounds : List ℕ
   pub layers : Layers
 
--- The rule of a distribution for n coefficients. (A layered Gaussian has none: see `coefficients`.)
+-- The rule of a distribution for n coefficients. A layered Gaussian has none; what stands here for it is never used (see `coefficients`).
 unfoldable pub secretRule : SecretKeyDistr → ℕ → List ℕ → Rule
 secretRule UniformBinary n bounds = uniformBinary n
 secretRule (Binary p) n bounds = binary (threshold p) n

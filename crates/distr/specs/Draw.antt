@@ -1,6 +1,7 @@
 -- The whole answer of a draw: its number, the place after it and every element of the output.
 use Prim.Native.Nat.{ℕ, _-_}
-use mathlib.Core.Bool.{Bool, cond, _&&_}
+use mathlib.Core.Path.{_≡_}
+use mathlib.Core.Bool.{Bool, true, cond, _&&_}
 use mathlib.Core.List.{List, [], _∷_, _++_, map}
 use lib.Dec.{eqb}
 use lib.ListN.{length, drop, replicate}
@@ -11,6 +12,7 @@ use Rattle.distr.specs.Words.{Read, got, short}
 use Rattle.distr.specs.Rule.{Rule, readBy}
 use Rattle.distr.specs.Distribution.{Distr, secret, error, Tables, coefficients}
 use Rattle.distr.specs.Encoding.{encode, rows}
+use Rattle.distr.specs.Making.{makingNumber}
 use Rattle.distr.specs.Numbers.{firstOf, pastEnd, tooLong, stateNumbers, signedNumbers, encodedNumbers, crtNumbers, servesCrt}
 
 pub record Outcome (A : Type 0) : Type 0 where
@@ -23,10 +25,11 @@ abbrev pub outcome : {A : Type 0} → Answer → List A → Outcome A
 outcome answer output = record { number = answer .number; place = answer .place; output = output }
 
 -- "Success is number 0 and the new place"; "23 keeps the place and writes zeros over the output".
--- `count` words in all, the draw begun at `place`, n coefficients wanted, `write` what the output holds for coefficients.
+-- `wordCount` words in all, the draw begun at `place`, n coefficients wanted, `write` what the output holds for coefficients. What is left
+-- after reading is a tail of the words, so the new place is the number of words before that tail.
 unfoldable pub settled : {A : Type 0} → (List ℤ → List A) → ℕ → ℕ → ℕ → Read (List ℤ) → Outcome A
-settled write count place n (got cs rest) = record { number = 0; place = count - length rest; output = write cs }
-settled write count place n short = record { number = 23; place = place; output = write (replicate n (pos 0)) }
+settled write wordCount place n (got cs rest) = record { number = 0; place = wordCount - length rest; output = write cs }
+settled write wordCount place n short = record { number = 23; place = place; output = write (replicate n (pos 0)) }
 
 -- "All but 23 change neither place nor output."
 unfoldable pub judged : {A : Type 0} → ℕ → ℕ → List A → Outcome A → Outcome A
@@ -52,12 +55,17 @@ signedDraw made d tables words place out =
     drawn (λ cs. cs) (stateNumbers made (length words) place ++ signedNumbers d tables (length out)) words place out
     (length out) (coefficients d (length out) tables)
 
--- A CRT draw of `count` coefficients; "an empty output now succeeds and reads nothing".
+-- What a call of a `sample_signed_to` does: its answer and its output are those of the signed draw. The contracts of both samplers cite this
+-- predicate, and demand 3 quantifies over it.
+abbrev pub Meets : Bool → Distr → Tables → List ℕ → ℕ → List ℤ → Outcome ℤ → Type 0
+Meets made d tables words place out o = o ≡ signedDraw made d tables words place out
+
+-- A CRT draw of so many coefficients; "an empty output now succeeds and reads nothing".
 unfoldable pub crtDraw : Bool → Distr → Tables → ℕ → List ℕ → List ℕ → ℕ → List ℕ → Outcome ℕ
-crtDraw made d tables count moduli words place out =
-    let numbers = stateNumbers (made && servesCrt d) (length words) place ++ crtNumbers d tables (length out) count moduli in
+crtDraw made d tables coefficientCount moduli words place out =
+    let numbers = stateNumbers (made && servesCrt d) (length words) place ++ crtNumbers d tables (length out) coefficientCount moduli in
     cond (eqb (length out) 0) (judged (firstOf numbers) place out (record { number = 0; place = place; output = out }))
-    (drawn (rows moduli) numbers words place out count (coefficients d count tables))
+    (drawn (rows moduli) numbers words place out coefficientCount (coefficients d coefficientCount tables))
 
 -- A draw of residues of one modulus.
 abbrev pub residueDraw : Bool → Distr → Tables → ℕ → List ℕ → ℕ → List ℕ → Outcome ℕ
@@ -72,3 +80,18 @@ encodedDraw made (error (ErrorGaussian deviation)) tables modulus words place ou
     residueDraw made (error (ErrorGaussian deviation)) tables modulus words place out
 encodedDraw made (error (CenteredBinomial eta)) tables modulus words place out =
     crtDraw made (error (CenteredBinomial eta)) tables (length out) (modulus ∷ []) words place out
+
+-- The tables of a draw that uses none.
+abbrev pub noTables : Tables
+noTables = record { bounds = []; layers = record { endpoints = []; heights = []; curve = [] } }
+
+-- A draw for a caller that has no sampler: the number of making the distribution, where that refuses it, before anything else is judged;
+-- else the draw by the sampler that making gives.
+abbrev pub atOnce : {A : Type 0} → Distr → ℕ → List A → Outcome A → Outcome A
+atOnce d place out drawn = judged (makingNumber d) place out drawn
+
+unfoldable pub signedAtOnce : Distr → List ℕ → ℕ → List ℤ → Outcome ℤ
+signedAtOnce d words place out = atOnce d place out (signedDraw true d noTables words place out)
+
+unfoldable pub encodedAtOnce : Distr → ℕ → List ℕ → ℕ → List ℕ → Outcome ℕ
+encodedAtOnce d modulus words place out = atOnce d place out (encodedDraw true d noTables modulus words place out)

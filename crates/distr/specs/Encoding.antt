@@ -1,6 +1,6 @@
 -- Residues: one modulus, several (CRT), and the row of one of them.
 use Prim.Native.Nat.{ℕ, suc, _*_, _-_}
-use mathlib.Core.Bool.{cond, _&&_}
+use mathlib.Core.Bool.{Bool, cond, _&&_}
 use mathlib.Core.List.{List, [], _∷_, _++_, map}
 use lib.Dec.{ltb, eqb}
 use lib.ListN.{length, take, drop}
@@ -25,7 +25,15 @@ unfoldable pub rows : List ℕ → List ℤ → List ℕ
 rows [] cs = []
 rows (modulus ∷ moduli) cs = map (encode modulus) cs ++ rows moduli cs
 
--- "The row of one modulus; a row number out of range, or a wrong shape, gives the empty part."
+-- Whether an output of n elements has the shape of coefficients × moduli, and a row of this number.
+abbrev pub hasRow : ℕ → ℕ → ℕ → ℕ → Bool
+hasRow n coefficientCount moduli i = eqb n (coefficientCount * moduli) && ltb i moduli
+
+-- "The row of one modulus is handed back as that part of the output; a row number out of range, or a wrong shape, gives the empty part at
+-- its start": the index at which the part starts, and what stands in it.
+abbrev pub rowStart : ℕ → ℕ → ℕ → ℕ → ℕ
+rowStart n coefficientCount moduli i = cond (hasRow n coefficientCount moduli i) (i * coefficientCount) 0
+
 abbrev pub row : List ℕ → ℕ → ℕ → ℕ → List ℕ
-row output count moduli i =
-    cond (eqb (length output) (count * moduli) && ltb i moduli) (take count (drop (i * count) output)) []
+row output coefficientCount moduli i =
+    cond (hasRow (length output) coefficientCount moduli i) (take coefficientCount (drop (i * coefficientCount) output)) []

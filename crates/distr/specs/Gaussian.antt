@@ -13,7 +13,7 @@ use Rattle.distr.specs.Rule.{Rule, wideWords}
 abbrev pub literal : ℕ → ℕ → Float
 literal a b = round binary64 false a b
 
--- "Support M = max(1, ⌊deviation × 12.0⌋), the product taken in f64."
+-- "Support M = max(1, ⌊deviation × 12.0⌋), the product taken in f64": ⌊num / den⌋ of the rounded product.
 abbrev pub support : Float → ℕ
 support deviation =
     let product = mul binary64 deviation (literal 12 1) in
@@ -31,7 +31,7 @@ neverFalls (a ∷ b ∷ xs) = leb a b && neverFalls (b ∷ xs)
 
 -- A list of so many numbers that never falls, from 0 to a last one: the cumulative table and the layers' endpoints.
 abbrev pub rising : ℕ → ℕ → List ℕ → Bool
-rising count last xs = eqb (length xs) count && eqb (getD xs 0 1) 0 && eqb (getD xs (count - 1) 0) last && neverFalls xs
+rising size last xs = eqb (length xs) size && eqb (getD xs 0 1) 0 && eqb (getD xs (size - 1) 0) last && neverFalls xs
 
 -- "M+2 bounds, first 0, last 2^64−1, never falling."
 abbrev pub cumulativeTable : ℕ → List ℕ → Bool
@@ -43,12 +43,12 @@ magnitude bounds zero w = 0
 magnitude bounds (suc m) w = cond (leb (getD bounds (suc m) 0) w) (suc m) (magnitude bounds m w)
 
 -- A magnitude with its sign.
-abbrev pub signed : Bool → ℕ → ℤ
-signed positive m = cond positive (pos m) (negℤ (pos m))
+abbrev pub withSign : Bool → ℕ → ℤ
+withSign positive m = cond positive (pos m) (negℤ (pos m))
 
 -- "An odd word is positive."
 abbrev pub cumulativeValue : ℕ → List ℕ → ℕ → ℤ
-cumulativeValue M bounds w = signed (eqb (w % 2) 1) (magnitude bounds M w)
+cumulativeValue M bounds w = withSign (eqb (w % 2) 1) (magnitude bounds M w)
 
 abbrev pub cumulative : ℕ → List ℕ → ℕ → Rule
 cumulative M bounds n = wideWords n (cumulativeValue M bounds)

@@ -14,7 +14,8 @@ unfoldable pub countUp : ℕ → ℕ → List ℕ
 countUp a zero = []
 countUp a (suc m) = a ∷ countUp (suc a) m
 
--- "Inserting at index i copies place s to i and puts the value at s": i is the length of the list so far, so place i is new.
+-- "Inserting at index i chooses s among i+1, copies place s to i and puts the value at s." The list so far has i elements, so place i is
+-- new; where s is i itself, nothing stands there to copy, and the new place gets the value alone.
 unfoldable pub inserted : ℤ → List ℤ → ℕ → List ℤ
 inserted v xs s = set (xs ++ (getD xs s v ∷ [])) s v
 
@@ -45,7 +46,7 @@ abbrev pub fixedBinaryWeight : ℕ → ℕ → Rule
 fixedBinaryWeight h n =
     cond (leb h (n - h)) (insertion (pos 0) (replicate h (pos 1)) n) (insertion (pos 1) (replicate (n - h) (pos 0)) n)
 
--- The signs at hand: where none are left, "32 signs take a word".
+-- The signs at hand: where none are left, "each 32 signs take a word".
 unfoldable pub signs : List ℕ → List ℕ → Read (List ℕ)
 signs [] ws = mapRead (λ w. digits 2 32 w) (word ws)
 signs (b ∷ bs) ws = got (b ∷ bs) ws

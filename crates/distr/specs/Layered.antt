@@ -9,9 +9,9 @@ use lib.Ieee.{Float, binary64, mul, sub, add, div, neg, lt, le, eq, ofInt}
 use lib.Ieee.Scale.{finite}
 use Rattle.distr.specs.Words.{Read, got, short, mapRead, bindRead, word, choose, coin, chance, many}
 use Rattle.distr.specs.Thresholds.{threshold}
-use Rattle.distr.specs.Gaussian.{literal, rising, signed}
+use Rattle.distr.specs.Gaussian.{literal, rising, withSign}
 
--- "R+1 endpoints, R+1 heights, M+1 curve values."
+-- "Lent: R+1 endpoints …, R+1 heights …, M+1 curve values".
 pub record Layers : Type 0 where
   pub endpoints : List ℕ
   pub heights : List Float
@@ -94,11 +94,11 @@ region deviation t i =
 abbrev pub scaled : Float → Float
 scaled h = mul binary64 (literal (2 ^ 32) 1) h
 
--- Under the curve: `y <= 2^32 * (pdf(m) - y[i])`, and its strict refusal on the right side.
+-- How far the curve at m stands above the layer, scaled: `2^32 * (pdf(m) - y[i])`.
 abbrev pub room : Layers → ℕ → ℕ → Float
 room t i m = scaled (sub binary64 (pdf t m) (y t i))
 
--- The three arms of `sample` for a height at that is drawn on layer i at magnitude m.
+-- The three arms of `sample`, by region: whether a height drawn on layer i at magnitude m is kept.
 abbrev pub under : FallRegion → Layers → ℕ → ℕ → Float → Bool
 under Left t i m height = le height (scaled (line t i (float m))) || le height (room t i m)
 under Right t i m height =
@@ -131,7 +131,7 @@ try deviation t ws =
     bindRead (choose (layerCount t) ws) (λ layer ws₁.
     bindRead (coin ws₁) (λ positive ws₂.
     bindRead (choose (suc (getD (t .endpoints) (layer + 1) 0)) ws₂) (λ m ws₃.
-    mapRead (λ passed. cond passed (kept (signed positive m)) rejected) (judge deviation t (layer + 1) m ws₃))))
+    mapRead (λ passed. cond passed (kept (withSign positive m)) rejected) (judge deviation t (layer + 1) m ws₃))))
 
 -- The coefficient of a try that is kept, or what follows from the words left.
 unfoldable pub orElse : Read Tried → (List ℕ → Read ℤ) → Read ℤ
@@ -144,7 +144,8 @@ unfoldable pub tries : ℕ → Float → Layers → List ℕ → Read ℤ
 tries zero deviation t ws = short
 tries (suc most) deviation t ws = orElse (try deviation t ws) (λ rest. tries most deviation t rest)
 
--- A coefficient. A try reads a word or lacks one, so as many tries as there are words left are as many as there can be.
+-- A coefficient. A try reads a word or lacks one, so as many tries as there are words left are as many as there can be: no larger bound
+-- gives another answer (`tries-enough` in ziggurat/proofs/Trying).
 abbrev pub layeredOne : Float → Layers → List ℕ → Read ℤ
 layeredOne deviation t ws = tries (length ws) deviation t ws
 

@@ -17,8 +17,11 @@ firstOf (zero ∷ ns) = firstOf ns
 firstOf (suc k ∷ ns) = suc k
 
 -- "6 output longer than 65,536."
+abbrev pub outputLimit : ℕ
+outputLimit = 65536
+
 abbrev pub tooLong : ℕ → ℕ
-tooLong n = refuse (ltb 65536 n) 6
+tooLong n = refuse (ltb outputLimit n) 6
 
 -- "7 weights over the length, or their sum over 2^64−1."
 abbrev pub badWeight : ℕ → ℕ → ℕ
@@ -42,7 +45,7 @@ lengthNumber (secret (FixedCompositionTernary minus ones)) n = badWeight (minus 
 lengthNumber (secret (Gaussian deviation)) n = 0
 lengthNumber (error d) n = 0
 
--- "9 largest magnitude above modulus − 1"; "modulus 0 gives 9".
+-- "9 largest magnitude (M, eta, else 1) above modulus − 1"; "modulus 0 gives 9".
 abbrev pub modulusNumber : ℕ → ℕ → ℕ
 modulusNumber most modulus = refuse (leb modulus most) 9
 
@@ -58,11 +61,11 @@ tableNumber d tables = onDeviation d (λ deviation. gaussianTable (support devia
 
 -- "22 place past the end of the words."
 abbrev pub pastEnd : ℕ → ℕ → ℕ
-pastEnd count place = refuse (ltb count place) 22
+pastEnd wordCount place = refuse (ltb wordCount place) 22
 
--- "21 a sampler that making never gives", before 22.
+-- "21 a sampler that making never gives, the empty one included", before 22. `made` says whether making gives the sampler.
 abbrev pub stateNumbers : Bool → ℕ → ℕ → List ℕ
-stateNumbers made count place = refuse (not made) 21 ∷ pastEnd count place ∷ []
+stateNumbers made wordCount place = refuse (not made) 21 ∷ pastEnd wordCount place ∷ []
 
 -- What else can refuse a signed draw, whatever the words: 6, then 7 or 8, then 12 or 13.
 abbrev pub signedNumbers : Distr → Tables → ℕ → List ℕ
@@ -79,7 +82,8 @@ servesCrt (error d) = true
 
 -- "11 CRT output length not coefficients × moduli, or that product over 2^64−1."
 abbrev pub shapeNumber : ℕ → ℕ → ℕ → ℕ
-shapeNumber n count moduli = refuse (not (eqb n (count * moduli)) || ltb (2 ^ 64 - 1) (count * moduli)) 11
+shapeNumber n coefficientCount moduli =
+    refuse (not (eqb n (coefficientCount * moduli)) || ltb (2 ^ 64 - 1) (coefficientCount * moduli)) 11
 
 -- "Then modulus by modulus 10 before 9"; "10 a CRT modulus of 0".
 unfoldable pub moduliNumbers : ℕ → List ℕ → List ℕ
@@ -88,5 +92,5 @@ moduliNumbers most (modulus ∷ moduli) = refuse (eqb modulus 0) 10 ∷ modulusN
 
 -- "CRT order: 21, 22, 11, 6, then modulus by modulus 10 before 9, then 12 or 13" (then the empty output, then 23).
 abbrev pub crtNumbers : Distr → Tables → ℕ → ℕ → List ℕ → List ℕ
-crtNumbers d tables n count moduli =
-    shapeNumber n count (length moduli) ∷ tooLong n ∷ (moduliNumbers (largest d) moduli ++ (tableNumber d tables ∷ []))
+crtNumbers d tables n coefficientCount moduli =
+    shapeNumber n coefficientCount (length moduli) ∷ tooLong n ∷ (moduliNumbers (largest d) moduli ++ (tableNumber d tables ∷ []))

@@ -8,17 +8,17 @@ use lib.IntN.{ℤ, pos, negsuc}
 use Rattle.distr.specs.Words.{mapRead, many, word}
 use Rattle.distr.specs.Rule.{Rule}
 
--- The lowest `count` digits of x in a base, lowest first: bits, two-bit groups, bytes and base-3 digits.
+-- The lowest `size` digits of x in a base, lowest first: bits, two-bit groups, bytes and base-3 digits.
 unfoldable pub digits : ℕ → ℕ → ℕ → List ℕ
 digits base zero x = []
-digits base (suc count) x = x % base ∷ digits base count (x / base)
+digits base (suc size) x = x % base ∷ digits base size (x / base)
 
 -- The digits of each number in turn.
 unfoldable pub split : ℕ → ℕ → List ℕ → List ℕ
-split base count [] = []
-split base count (x ∷ xs) = digits base count x ++ split base count xs
+split base size [] = []
+split base size (x ∷ xs) = digits base size x ++ split base size xs
 
--- n draws below `base`, `each` of them a word, out of m words; "left-over bits of a shared 32-bit word are no draws".
+-- n draws below `base`, `each` of them a word, out of m words; "left-over bits of a shared 32-bit word, are no draws".
 abbrev pub packed : ℕ → ℕ → ℕ → ℕ → (ℕ → ℤ) → Rule
 packed base each m n value = record {
   ranges = replicate n base;
@@ -33,7 +33,7 @@ minusOne = negsuc 0
 abbrev pub uniformBinary : ℕ → Rule
 uniformBinary n = packed 2 32 (n / 32 + 1) n pos
 
--- "Sparse ternary: 0 and 1 give 0, 2 gives 1, 3 gives −1."
+-- Sparse ternary: "0 and 1 give 0, 2 gives 1, 3 gives −1."
 abbrev pub sparseValue : ℕ → ℤ
 sparseValue d = cond (ltb d 2) (pos 0) (cond (eqb d 2) (pos 1) minusOne)
 
@@ -45,6 +45,6 @@ sparseTernary n = packed 4 16 ((n + 15) / 16) n sparseValue
 abbrev pub signValue : ℕ → ℤ
 signValue b = cond (eqb b 1) (pos 1) minusOne
 
--- "With h = n only signs are read": each 32 signs take a word.
+-- "With h = n only signs are read"; "each 32 signs take a word".
 abbrev pub signsAlone : ℕ → Rule
 signsAlone n = packed 2 32 ((n + 31) / 32) n signValue

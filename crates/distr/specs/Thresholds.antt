@@ -8,7 +8,8 @@ use lib.Ieee.Positive.{num, den}
 use Rattle.distr.specs.Rule.{Rule, constant, wideWords}
 use Rattle.distr.specs.Packed.{minusOne}
 
--- "A probability p has the threshold ⌊p × 2^64⌋", of the exact value of the f64, num / den.
+-- "A probability p has the threshold ⌊p × 2^64⌋", of the exact value of the f64, the fraction num / den. That fraction knows no sign and
+-- no NaN: a negative or a missing number is refused by 1 (a probability) or 2 (a deviation) before it is asked for.
 abbrev pub threshold : Float → ℕ
 threshold p = num p * 2 ^ 64 / den p
 

@@ -9,18 +9,19 @@ use Rattle.distr.specs.Words.{Read, got, short, mapRead}
 use Rattle.distr.specs.Rule.{Rule}
 use Rattle.distr.specs.Packed.{digits, split, minusOne}
 
--- The bytes below 243.
-unfoldable pub accepted : List ℕ → List ℕ
-accepted [] = []
-accepted (b ∷ bs) = cond (ltb b 243) (b ∷ accepted bs) (accepted bs)
+-- The bytes below 243, "243..255 skipped".
+unfoldable pub acceptedBytes : List ℕ → List ℕ
+acceptedBytes [] = []
+acceptedBytes (b ∷ bs) = cond (ltb b 243) (b ∷ acceptedBytes bs) (acceptedBytes bs)
 
--- m accepted bytes; a word is read while some are wanted, and what is left of the last one is dropped.
+-- m accepted bytes; a word is read while some are wanted, and what is left of the last one is dropped. Where a word has more than are
+-- wanted, `take` leaves the others out, and the difference, which is 0 then, ends the reading.
 unfoldable pub bytes : List ℕ → ℕ → Read (List ℕ)
 bytes [] zero = got [] []
 bytes [] (suc m) = short
 bytes (w ∷ ws) zero = got [] (w ∷ ws)
 bytes (w ∷ ws) (suc m) =
-    let found = accepted (digits 256 4 w) in
+    let found = acceptedBytes (digits 256 4 w) in
     mapRead (λ rest. take (suc m) found ++ rest) (bytes ws (suc m - length found))
 
 -- "0, 1, 2 giving −1, 0, 1."

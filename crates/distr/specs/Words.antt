@@ -35,7 +35,7 @@ wide [] = short
 wide (low ∷ []) = short
 wide (low ∷ high ∷ ws) = got (low + high * 2 ^ 32) ws
 
--- "A choice among k reads a word, skips it if it is not below k × ⌊2^32/k⌋, and gives the remainder by k."
+-- "A choice among k (1..2^32) reads a word, skips it if it is not below k × ⌊2^32/k⌋, and gives the remainder by k."
 unfoldable pub choose : ℕ → List ℕ → Read ℕ
 choose k [] = short
 choose k (w ∷ ws) = cond (ltb w (k * (2 ^ 32 / k))) (got (w % k) ws) (choose k ws)

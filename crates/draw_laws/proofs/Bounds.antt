@@ -14,7 +14,7 @@ use Rattle.distr.specs.Words.{Read, got, coin}
 use Rattle.distr.specs.Rule.{readBy}
 use Rattle.distr.specs.Packed.{digits}
 use Rattle.distr.specs.CenteredBinomial.{total, firstSum, secondSum, binomialValue, centeredBinomial}
-use Rattle.distr.specs.Gaussian.{cumulativeLimit, rising, cumulativeTable, magnitude, signed, cumulativeValue, cumulative}
+use Rattle.distr.specs.Gaussian.{cumulativeLimit, rising, cumulativeTable, magnitude, withSign, cumulativeValue, cumulative}
 use Rattle.distr.specs.Layered.{Layers, layerCount, heightList, curveList, layerTables, judge, Tried, kept, rejected, try, orElse, tries, layeredOne, layered}
 use Rattle.distr.specs.Distribution.{Tables, gaussianRead}
 use Rattle.distr.specs.Making.{refuse}
@@ -33,7 +33,7 @@ within-read : (most : ℕ) {read : Read (List ℤ)} → Reads (Every (λ c. natA
 within-read most r cs rest e = every-at (pos 0) (value-read r e)
 
 -- a magnitude with its sign
-signed-at-most : (positive : Bool) (m : ℕ) {most : ℕ} → m ≤ most → natAbs (signed positive m) ≤ most
+signed-at-most : (positive : Bool) (m : ℕ) {most : ℕ} → m ≤ most → natAbs (withSign positive m) ≤ most
 signed-at-most true m h = h
 signed-at-most false zero h = h
 signed-at-most false (suc m) h = h
@@ -126,8 +126,8 @@ module _ (deviation : Float) (M : ℕ) (t : Layers) (good : T (layerTables M t))
       reads-bind _ (reads-choose (layerCount t) ws) (λ layer ws₁ below.
       reads-bind _ (reads-all (coin ws₁)) (λ positive ws₂ any.
       reads-bind _ (reads-choose (suc (getD (t .endpoints) (layer + 1) 0)) ws₂) (λ m ws₃ few.
-      reads-any (λ passed. cond passed (kept (signed positive m)) rejected)
-      (λ passed. kept-if passed (signed positive m) (signed-at-most positive m (omega (arith, endpoint-at-most layer below))))
+      reads-any (λ passed. cond passed (kept (withSign positive m)) rejected)
+      (λ passed. kept-if passed (withSign positive m) (signed-at-most positive m (omega (arith, endpoint-at-most layer below))))
       (judge deviation t (layer + 1) m ws₃))))
 
   tries-at-most : (most : ℕ) (ws : List ℕ) → Reads (λ c. natAbs c ≤ M) (tries most deviation t ws)

@@ -9,7 +9,8 @@ use borrow.Author.Tests.{ne-eqb}
 use lib.ListN.{length, drop, replicate}
 use lib.IntN.{ℤ, pos}
 use Rattle.distr.specs.Words.{Read, got, short}
-use Rattle.distr.specs.Numbers.{firstOf, stateNumbers, tooLong, pastEnd}
+use Rattle.distr.specs.Distribution.{Distr, Tables, coefficients}
+use Rattle.distr.specs.Numbers.{firstOf, stateNumbers, tooLong, pastEnd, lengthNumber, tableNumber}
 use Rattle.distr.specs.Draw.{Outcome, settled, judged, drawn, readDraw}
 
 -- a number before others that do not refuse is the first
@@ -44,6 +45,10 @@ pub refused : {A : Type 0} (ns : List ℕ) {k : ℕ} (place : ℕ) (out : List A
 unfolding judged
 refused ns {k} place out given e h = rw (e, ne-eqb k 0 (λ z. omega arith))
 
+-- The draw's own number: the distribution's, of the length or of its tables.
+abbrev pub ownNumber : Distr → Tables → ℕ → ℕ
+ownNumber d tables n = firstOf (lengthNumber d n ∷ tableNumber d tables ∷ [])
+
 module _ {A : Type 0} (write write′ : List ℤ → List A) (words : List ℕ) (place : ℕ) (out : List A) where
   pub settled-same : (read : Read (List ℤ)) → ((cs : List ℤ) (rest : List ℕ) → read ≡ got cs rest → write cs ≡ write′ cs)
       → write (replicate (length out) (pos 0)) ≡ write′ (replicate (length out) (pos 0))
@@ -52,13 +57,13 @@ module _ {A : Type 0} (write write′ : List ℤ → List A) (words : List ℕ) 
   settled-same (got cs rest) h z = rw (h cs rest refl)
   settled-same short h z = rw z
 
-  -- a sampler's further numbers are no more than the draw's own
-  pub joined : (number : ℕ) (ns : List ℕ) (rules : List ℕ → Read (List ℤ)) → firstOf ns ≡ number
-      → ((cs : List ℤ) (rest : List ℕ) → rules (drop place words) ≡ got cs rest → write cs ≡ write′ cs)
-      → write (replicate (length out) (pos 0)) ≡ write′ (replicate (length out) (pos 0))
-      → readDraw write number rules words place out
-      ≡ drawn write′ (stateNumbers true (length words) place ++ (tooLong (length out) ∷ ns)) words place out (length out) rules
+  -- what the distribution draws, by the draw's own number, is what its sampler draws: the sampler's further numbers come to no other, and both
+  -- write the same
+  pub joined : (d : Distr) (tables : Tables) (number : ℕ) (ns : List ℕ) → firstOf ns ≡ number → ((cs : List ℤ) → write cs ≡ write′ cs)
+      → readDraw write number (coefficients d (length out) tables) words place out
+      ≡ drawn write′ (stateNumbers true (length words) place ++ (tooLong (length out) ∷ ns)) words place out (length out) (coefficients d (length out) tables)
   unfolding firstOf
-  joined number ns rules e h z =
+  joined d tables number ns e h =
       rw (← e, first-last (pastEnd (length words) place ∷ tooLong (length out) ∷ []) ns)
-      (ap (judged (firstOf (pastEnd (length words) place ∷ tooLong (length out) ∷ ns)) place out) (settled-same (rules (drop place words)) h z))
+      (ap (judged (firstOf (pastEnd (length words) place ∷ tooLong (length out) ∷ ns)) place out)
+      (settled-same (coefficients d (length out) tables (drop place words)) (λ cs rest r. h cs) (h (replicate (length out) (pos 0)))))

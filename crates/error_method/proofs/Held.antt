@@ -8,16 +8,16 @@ use Rattle.distr.specs.declared.error_distribution.ErrorDistribution.{ErrorDist
 use Rattle.distr.specs.declared.error_distribution.ErrorDistribution.the-variants as Distr
 use Rattle.distr.proofs.error_distribution.ErrorDistribution.{the-field as distr-field, the-type as distr-type}
 use Rattle.method_fields.proofs.Deviation.{zero-fits}
-use Rattle.error_method.specs.declared.SamplingMethod.{SamplingMethod}
-use Rattle.error_method.specs.declared.SamplingMethod.the-variants.{Gaussian, CenteredBinomial, Empty}
+use Rattle.error_method.specs.declared.ErrorMethod.{ErrorMethod}
+use Rattle.error_method.specs.declared.ErrorMethod.the-variants.{Gaussian, CenteredBinomial, Empty}
 use Rattle.error_method.specs.Method.{prepared, methodFields}
-use Rattle.error_method.proofs.SamplingMethod.{the-field as method-field, the-type as method-type}
+use Rattle.error_method.proofs.ErrorMethod.{the-field as method-field, the-type as method-type}
 
 -- The deviation of a method, and that of the method prepared for a distribution.
-pub method-fits : (m : SamplingMethod) (vs : List Val) → shadow (method-field .row .own (method-type .to m) vs)
+pub method-fits : (m : ErrorMethod) (vs : List Val) → shadow (method-field .row .own (method-type .to m) vs)
     → T (fits binary64 (methodFields m .deviation))
 method-fits (Gaussian parameters) vs p = rw (p .1 .1 .1 .1 .0 .1 .1 .0 .1) tt
-method-fits (CenteredBinomial sampler) vs p = zero-fits
+method-fits (CenteredBinomial parameters) vs p = zero-fits
 method-fits Empty vs p = zero-fits
 
 pub distr-fits : (d : ErrorDistribution) (vs : List Val) → shadow (distr-field .row .own (distr-type .to d) vs)

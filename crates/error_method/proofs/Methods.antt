@@ -17,15 +17,15 @@ use Rattle.distr.specs.Making.{errorNumber, badDeviation, largest}
 use Rattle.distr.specs.Numbers.{tableNumber}
 use Rattle.distr.specs.Draw.{readDraw, ruleDraw, signedDraw}
 use Rattle.distr.proofs.Drawing.{read-got}
-use Rattle.centered_binomial.specs.Binomial.{isMadeBinomial, samplerOf}
-use Rattle.centered_binomial.proofs.Samplers.{eta-small}
+use Rattle.centered_binomial.specs.Binomial.{isMadeBinomial, parametersOf}
+use Rattle.centered_binomial.proofs.Made.{eta-small}
 use Rattle.draw_laws.proofs.Signed.{error-gaussian, error-binomial}
 use Rattle.draw_laws.proofs.Bounds.{Within, gaussian-within, binomial-within}
 use Rattle.error_method.specs.Method.{prepared}
 use Rattle.error_method.specs.Drawing.{methodDraw}
 
--- the sampler of an accepted eta passes its family's own test
-own-binomial : (eta : ℕ) → errorNumber (Distr.CenteredBinomial eta) ≡ 0 → isMadeBinomial (samplerOf eta) ≡ true
+-- the parameters of an accepted eta pass their family's own test
+own-binomial : (eta : ℕ) → errorNumber (Distr.CenteredBinomial eta) ≡ 0 → isMadeBinomial (parametersOf eta) ≡ true
 own-binomial eta e = rw (e, eq-eqb (2 ^ eta - 1) (2 ^ eta - 1) refl)
 
 module _ {A : Type 0} (write : List ℤ → List A) (tables : Tables) (words : List ℕ) (place : ℕ) (out : List A) where

@@ -12,12 +12,12 @@ use Rattle.gaussian_core.proofs.SameFloat.{eq-same}
 use Rattle.method_fields.specs.Fields.{sameFields}
 use Rattle.method_fields.proofs.Fields.{same-parts, same-itself}
 use Rattle.method_fields.proofs.Deviation.{positive-equal, zero-equal}
-use Rattle.error_method.specs.declared.SamplingMethod.{SamplingMethod}
-use Rattle.error_method.specs.declared.SamplingMethod.the-variants.{Gaussian, CenteredBinomial, Empty}
+use Rattle.error_method.specs.declared.ErrorMethod.{ErrorMethod}
+use Rattle.error_method.specs.declared.ErrorMethod.the-variants.{Gaussian, CenteredBinomial, Empty}
 use Rattle.error_method.specs.Method.{prepared, magnitudeOf, methodFields}
 
 -- A method that has the fields of a prepared one is that one.
-pub same-method : (m : SamplingMethod) (d : ErrorDistribution) → errorNumber d ≡ 0 → T (fits binary64 (methodFields m .deviation))
+pub same-method : (m : ErrorMethod) (d : ErrorDistribution) → errorNumber d ≡ 0 → T (fits binary64 (methodFields m .deviation))
     → T (fits binary64 (methodFields (prepared d) .deviation)) → T (sameFields (methodFields m) (methodFields (prepared d))) → m ≡ prepared d
 unfolding prepared errorNumber
 same-method (Gaussian p) (Distr.Gaussian deviation) z f g h =

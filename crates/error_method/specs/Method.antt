@@ -6,39 +6,39 @@ use Rattle.distr.specs.declared.error_distribution.ErrorDistribution.{ErrorDist
 use Rattle.distr.specs.declared.error_distribution.ErrorDistribution.the-variants as Distr
 use Rattle.distr.specs.Gaussian.{support}
 use Rattle.distr.specs.Making.{errorNumber}
-use Rattle.centered_binomial.specs.Binomial.{samplerOf}
+use Rattle.centered_binomial.specs.Binomial.{parametersOf}
 use Rattle.method_fields.specs.declared.MethodFields.{MethodFields}
 use Rattle.method_fields.specs.Fields.{fieldsOf, plainFields}
-use Rattle.error_method.specs.declared.PreparedMethod.{PreparedMethod}
-use Rattle.error_method.specs.declared.SamplingMethod.{SamplingMethod}
-use Rattle.error_method.specs.declared.SamplingMethod.the-variants.{Gaussian, CenteredBinomial, Empty}
+use Rattle.error_method.specs.declared.PreparedErrorMethod.{PreparedErrorMethod}
+use Rattle.error_method.specs.declared.ErrorMethod.{ErrorMethod}
+use Rattle.error_method.specs.declared.ErrorMethod.the-variants.{Gaussian, CenteredBinomial, Empty}
 
 -- The method that making prepares for a distribution.
-unfoldable pub prepared : ErrorDistribution → SamplingMethod
+unfoldable pub prepared : ErrorDistribution → ErrorMethod
 prepared (Distr.Gaussian deviation) = Gaussian (record { «standard_deviation» = deviation; «maximum_magnitude» = support deviation })
-prepared (Distr.CenteredBinomial eta) = CenteredBinomial (samplerOf eta)
+prepared (Distr.CenteredBinomial eta) = CenteredBinomial (parametersOf eta)
 
 -- The number of making and, where it is 0, the method.
-abbrev pub judgedMethod : ℕ → SamplingMethod → PreparedMethod
+abbrev pub judgedMethod : ℕ → ErrorMethod → PreparedErrorMethod
 judgedMethod number method = record { number = number; method = cond (eqb number 0) method Empty }
 
-abbrev pub preparing : ErrorDistribution → PreparedMethod
+abbrev pub preparing : ErrorDistribution → PreparedErrorMethod
 preparing d = judgedMethod (errorNumber d) (prepared d)
 
--- "Largest magnitude (M, eta)", as the method keeps it.
-abbrev pub magnitudeOf : SamplingMethod → ℕ
+-- "Largest magnitude (M, eta, else 1)", as the method keeps it.
+abbrev pub magnitudeOf : ErrorMethod → ℕ
 magnitudeOf (Gaussian parameters) = parameters .«maximum_magnitude»
-magnitudeOf (CenteredBinomial sampler) = sampler .eta
+magnitudeOf (CenteredBinomial parameters) = parameters .eta
 magnitudeOf Empty = 1
 
 -- A method's fields as numbers: its kind, and what it holds (0 where it holds nothing).
-abbrev pub methodFields : SamplingMethod → MethodFields
+abbrev pub methodFields : ErrorMethod → MethodFields
 methodFields (Gaussian parameters) = fieldsOf 1 false (parameters .«maximum_magnitude») 0 (parameters .«standard_deviation»)
-methodFields (CenteredBinomial sampler) = plainFields 2 (sampler .eta) (sampler .mask)
+methodFields (CenteredBinomial parameters) = plainFields 2 (parameters .eta) (parameters .mask)
 methodFields Empty = plainFields 0 0 0
 
 -- The centered binomial's method.
-abbrev pub isBinomial : SamplingMethod → Bool
+abbrev pub isBinomial : ErrorMethod → Bool
 isBinomial (Gaussian parameters) = false
-isBinomial (CenteredBinomial sampler) = true
+isBinomial (CenteredBinomial parameters) = true
 isBinomial Empty = false

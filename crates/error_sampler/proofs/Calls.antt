@@ -8,11 +8,11 @@ use Rattle.distr.specs.Distribution.{Distr, error}
 use Rattle.distr.specs.Draw.{Outcome, judged}
 use Rattle.distr.specs.Making.{makingNumber}
 use Rattle.draw_laws.proofs.Making.{number-made, call-refused, call-drawn}
-use Rattle.error_sampler.specs.declared.MadeSampler.{MadeSampler}
+use Rattle.error_sampler.specs.declared.MadeErrorSampler.{MadeErrorSampler}
 use Rattle.error_sampler.specs.Sampler.{making, isMade}
 use Rattle.error_sampler.proofs.Made.{makes}
 
-module _ (d : ErrorDistribution) (m : MadeSampler) (h : m ≡ making d) where
+module _ (d : ErrorDistribution) (m : MadeErrorSampler) (h : m ≡ making d) where
   pub made-number : m .number ≡ makingNumber (error d)
   made-number = number-made makes d m h ∙ sym (makes .judges d)
 

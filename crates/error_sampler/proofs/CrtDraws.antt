@@ -1,6 +1,6 @@
 -- A CRT draw: refused by its first number or by a table, or the rows made from the last one, which is drawn by the method.
 use mathlib.Core.Path.{_≡_, refl, sym, ap, _∙_, subst}
-use mathlib.Core.Bool.{Bool, true, false, not, cond, _||_, true≢false}
+use mathlib.Core.Bool.{Bool, true, false, not, cond}
 use mathlib.Core.List.{List, [], _∷_, _++_, map, append-nil}
 use Prim.Native.Nat.{ℕ, zero, suc, _*_, _-_, _^_, _<_, _≤_, zero-le}
 use native.Mathlib.Nat.{le-refl, mul-zero, mul-suc}
@@ -24,9 +24,9 @@ use Rattle.distr.specs.Numbers.{firstOf, stateNumbers, servesCrt, tableNumber}
 use Rattle.distr.specs.Draw.{Outcome, outcome, settled, readDraw, crtDraw}
 use Rattle.distr.proofs.Drawing.{read-settled, read-own}
 use Rattle.crt.specs.Rows.{nativeRows, lastRow, spread, finished}
-use Rattle.crt.proofs.Finishing.{finished-settled}
+use Rattle.crt.proofs.Finishing.{finished-kept, finished-settled}
 use Rattle.draw_laws.proofs.Crt.{layoutNumbers, Layout, layout-passed, crt-unmade, crt-past-end, crt-layout, crt-table, crt-empty, crt-settled}
-use Rattle.error_method.specs.declared.SamplingMethod.{SamplingMethod}
+use Rattle.error_method.specs.declared.ErrorMethod.{ErrorMethod}
 use Rattle.error_method.specs.Method.{prepared, magnitudeOf}
 use Rattle.error_method.specs.Drawing.{methodDraw}
 use Rattle.error_method.proofs.Methods.{method-draw, method-within, method-empty, largest-small}
@@ -40,28 +40,18 @@ serves : (d : ErrorDistribution) → servesCrt (error d) ≡ true
 unfolding servesCrt
 serves d = refl
 
--- The number of a refused table.
-abbrev ofTable : ℕ → Bool
-ofTable k = eqb k 12 || eqb k 13
-
--- a table's number is such a one, if it refuses
-table-number : (d : ErrorDistribution) (tables : Tables) → 0 < tableNumber (error d) tables → ofTable (tableNumber (error d) tables) ≡ true
+-- a table's number is 12 or 13, if it refuses, and so not 23
+table-number : (d : ErrorDistribution) (tables : Tables) → tableNumber (error d) tables < 23
 unfolding tableNumber onDeviation
-table-number (Distr.Gaussian deviation) tables h =
-    go (leb (support deviation) cumulativeLimit) (cumulativeTable (support deviation) (tables .bounds)) (layerTables (support deviation) (tables .layers)) h
+table-number (Distr.Gaussian deviation) tables =
+    go (leb (support deviation) cumulativeLimit) (cumulativeTable (support deviation) (tables .bounds)) (layerTables (support deviation) (tables .layers))
   where
-    go : (small bounds layers : Bool) → let k = cond small (refuse (not bounds) 12) (refuse (not layers) 13) in 0 < k → ofTable k ≡ true
-    go true true layers h = absurd (omega arith)
-    go true false layers h = refl
-    go false bounds true h = absurd (omega arith)
-    go false bounds false h = refl
-table-number (Distr.CenteredBinomial eta) tables h = absurd (omega arith)
-
--- that of what the rules settle is not
-settled-number : {A : Type 0} (write : List ℤ → List A) (words place n : ℕ) (read : Read (List ℤ)) → ofTable (settled write words place n read .number) ≡ false
-unfolding settled
-settled-number write words place n (got cs rest) = refl
-settled-number write words place n short = refl
+    go : (small bounds layers : Bool) → cond small (refuse (not bounds) 12) (refuse (not layers) 13) < 23
+    go true true layers = omega arith
+    go true false layers = omega arith
+    go false bounds true = omega arith
+    go false bounds false = omega arith
+table-number (Distr.CenteredBinomial eta) tables = omega arith
 
 -- The last row, which starts at `last`, and the output with another in its place.
 abbrev lastPart : List ℕ → ℕ → List ℕ
@@ -117,7 +107,7 @@ module _ (s : ErrorSampler) (words place n count : ℕ) (moduli : List ℕ) (k :
       f ∙ rw m (state-next words place (layoutNumbers (magnitudeOf (s .method)) n count moduli) (isMade s) k e z)
 
 -- What a draw that no number before the tables' refuses can rely on.
-pub record Ready (d : ErrorDistribution) (made : Bool) (method : SamplingMethod) (count : ℕ) (moduli words : List ℕ) (place n : ℕ) : Type 0 where
+pub record Ready (d : ErrorDistribution) (made : Bool) (method : ErrorMethod) (count : ℕ) (moduli words : List ℕ) (place n : ℕ) : Type 0 where
   is-made : made ≡ true
   same : method ≡ prepared d
   accepted : errorNumber d ≡ 0
@@ -159,7 +149,7 @@ crt-ready s floats count moduli words place n e z =
 abbrev wrapped : List ℤ → List ℕ
 wrapped = map (encodeWith (2 ^ 64 - 1))
 
-module _ {d : ErrorDistribution} {made : Bool} {method : SamplingMethod} (tables : Tables) (count : ℕ) (moduli words : List ℕ) (place : ℕ) (out : List ℕ)
+module _ {d : ErrorDistribution} {made : Bool} {method : ErrorMethod} (tables : Tables) (count : ℕ) (moduli words : List ℕ) (place : ℕ) (out : List ℕ)
     (r : Ready d made method count moduli words place (length out)) where
   -- 12 or 13
   refused-table : 0 < tableNumber (error d) tables
@@ -194,14 +184,13 @@ module _ {d : ErrorDistribution} {made : Bool} {method : SamplingMethod} (tables
         (r .here) few t)
 
     -- 12 or 13 leaves the last row as it was, and so the output
-    pub crt-table-kept : ofTable (answer .number) ≡ true
-        → outcome answer (withLast out last ys) ≡ crtDraw made (error d) tables count moduli words place out
-    crt-table-kept h =
-        zero-or-more (tableNumber (error d) tables)
-        (λ t. absurd (true≢false (sym h ∙ ap (λ (o : Outcome ℕ). ofTable (o .number)) (when-settled t _ refl) ∙ settled-number wrapped _ _ _ _)))
-        (λ t. ap (λ (o : Outcome ℕ). record { number = o .number; place = o .place; output = withLast out last (o .output) }) (when-table t)
+    table-finished : 0 < tableNumber (error d) tables
+        → finished (withLast out last ys) count moduli answer ≡ record { number = tableNumber (error d) tables; place = place; output = out }
+    table-finished t =
+        let number : answer .number ≡ tableNumber (error d) tables = ap (λ (o : Outcome ℕ). o .number) (when-table t) in
+        sym (finished-kept (withLast out last ys) count moduli answer (λ z. omega arith) (λ z. omega (arith, table-number d tables)) refl)
+        ∙ ap (λ (o : Outcome ℕ). record { number = o .number; place = o .place; output = withLast out last (o .output) }) (when-table t)
         ∙ ap (λ (l : List ℕ). record { number = tableNumber (error d) tables; place = place; output = l }) (put-same last (length out - last) out)
-        ∙ sym (refused-table t))
 
     -- else an empty output stays
     empty-finished : tableNumber (error d) tables ≡ 0 → length out ≡ 0
@@ -228,13 +217,13 @@ module _ {d : ErrorDistribution} {made : Bool} {method : SamplingMethod} (tables
         (rw (with-last out count last ys from size)
         (when-settled t count (omega (arith, part-length out last, row-fits (length out) count (length moduli) (layout .shape) some))))
 
-    pub crt-finished : ofTable (answer .number) ≡ false → {o : Outcome ℕ} → o ≡ finished (withLast out last ys) count moduli answer
+    pub crt-finished : {o : Outcome ℕ} → o ≡ finished (withLast out last ys) count moduli answer
         → o ≡ crtDraw made (error d) tables count moduli words place out
-    crt-finished h e =
+    crt-finished e =
         zero-or-more (tableNumber (error d) tables)
         (λ t. zero-or-more (length out)
         (λ none. e ∙ empty-finished t none
         ∙ sym (rw (r .is-made) (crt-empty (error d) tables count moduli words place out (serves d) (r .here) (r .good) t none)))
         (λ some. e ∙ rows-finished t some
         ∙ sym (rw (r .is-made) (crt-settled (error d) tables count moduli words place out (serves d) (r .here) (r .good) t some))))
-        (λ t. absurd (true≢false (sym (table-number d tables t) ∙ sym (ap (λ (o : Outcome ℕ). ofTable (o .number)) (when-table t)) ∙ h)))
+        (λ t. e ∙ table-finished t ∙ sym (refused-table t))

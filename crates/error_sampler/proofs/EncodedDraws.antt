@@ -24,7 +24,7 @@ use Rattle.draw_laws.proofs.Joining.{first-before, first-within, refused, settl
 use Rattle.draw_laws.proofs.Writes.{encode-with}
 use Rattle.draw_laws.proofs.Encoded.{of-gaussian, encoded-unmade, encoded-past-end, encoded-error-gaussian}
 use Rattle.draw_laws.proofs.Crt.{crt-unmade, crt-past-end, layoutNumbers, crt-layout, crt-empty, encoded-binomial-crt, encoded-binomial-settled}
-use Rattle.error_method.specs.declared.SamplingMethod.{SamplingMethod}
+use Rattle.error_method.specs.declared.ErrorMethod.{ErrorMethod}
 use Rattle.error_method.specs.Method.{prepared, magnitudeOf, isBinomial}
 use Rattle.error_method.specs.Drawing.{methodDraw}
 use Rattle.error_method.proofs.Methods.{method-draw, method-empty}
@@ -59,7 +59,7 @@ module _ (s : ErrorSampler) (words place n q k : ℕ) (e : k ≡ firstOf (stateN
       tried-modulus t = sym (first-before (modulusNumber (magnitudeOf (s .method)) q) [] refl) ∙ (rw (le-ltb 65536 n h, ← f, t) at next)
 
 -- what the numbers say where none refuses
-residue-passed : (m : SamplingMethod) (n q : ℕ) → firstOf (residueNumbers m n q) ≡ 0 → (n ≤ 65536) × (magnitudeOf m < q)
+residue-passed : (m : ErrorMethod) (n q : ℕ) → firstOf (residueNumbers m n q) ≡ 0 → (n ≤ 65536) × (magnitudeOf m < q)
 unfolding firstOf
 residue-passed m n q = go (ltb 65536 n) (isBinomial m && eqb q 0) (leb q (magnitudeOf m)) refl refl
   where

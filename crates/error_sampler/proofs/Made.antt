@@ -12,7 +12,7 @@ use Rattle.method_fields.specs.Fields.{sameFields}
 use Rattle.error_method.specs.Method.{prepared, magnitudeOf, methodFields}
 use Rattle.error_method.proofs.Same.{same-method, own-same, prepared-magnitude}
 use Rattle.error_sampler.specs.declared.ErrorSampler.{ErrorSampler}
-use Rattle.error_sampler.specs.declared.MadeSampler.{MadeSampler}
+use Rattle.error_sampler.specs.declared.MadeErrorSampler.{MadeErrorSampler}
 use Rattle.error_sampler.specs.Sampler.{emptySampler, making, isMade}
 
 -- The floats of a sampler are values of f64, as they are in every sampler that code can hold.
@@ -48,7 +48,7 @@ pub own-judge : (d : ErrorDistribution) → makingNumber (error d) ≡ errorNumb
 unfolding makingNumber
 own-judge d = refl
 
-abbrev pub makes : Makes ErrorDistribution ErrorSampler MadeSampler
+abbrev pub makes : Makes ErrorDistribution ErrorSampler MadeErrorSampler
 makes = record {
   kind = error;
   judge = errorNumber;

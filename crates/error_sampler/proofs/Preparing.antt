@@ -7,18 +7,18 @@ use Rattle.distr.specs.declared.error_distribution.ErrorDistribution.{ErrorDist
 use Rattle.distr.specs.Making.{errorNumber}
 use Rattle.gaussian_core.proofs.Judged.{tested-first}
 use Rattle.method_fields.specs.Fields.{sameFields}
-use Rattle.error_method.specs.declared.PreparedMethod.{PreparedMethod}
-use Rattle.error_method.specs.declared.SamplingMethod.the-variants.{Empty}
+use Rattle.error_method.specs.declared.PreparedErrorMethod.{PreparedErrorMethod}
+use Rattle.error_method.specs.declared.ErrorMethod.the-variants.{Empty}
 use Rattle.error_method.specs.Method.{prepared, preparing, methodFields}
 use Rattle.error_sampler.specs.declared.ErrorSampler.{ErrorSampler}
 use Rattle.error_sampler.specs.Sampler.{emptySampler, making, isMade}
 
 -- A prepared method makes the sampler where its number is 0, else the empty one.
-pub made-sampler : (d : ErrorDistribution) (p : PreparedMethod) → p ≡ preparing d → p .number ≡ 0
+pub made-sampler : (d : ErrorDistribution) (p : PreparedErrorMethod) → p ≡ preparing d → p .number ≡ 0
     → record { number = 0; sampler = record { distribution = d; method = p .method } } ≡ making d
-made-sampler d p e z = let zero : errorNumber d ≡ 0 = sym (ap (λ (q : PreparedMethod). q .number) e) ∙ z in rw (e, zero)
+made-sampler d p e z = let zero : errorNumber d ≡ 0 = sym (ap (λ (q : PreparedErrorMethod). q .number) e) ∙ z in rw (e, zero)
 
-pub made-none : (d : ErrorDistribution) (p : PreparedMethod) → p ≡ preparing d → (p .number ≡ 0 → ⊥)
+pub made-none : (d : ErrorDistribution) (p : PreparedErrorMethod) → p ≡ preparing d → (p .number ≡ 0 → ⊥)
     → record { number = p .number; sampler = emptySampler } ≡ making d
 made-none d p e z = rw e (let some : eqb (errorNumber d) 0 ≡ false = ne-eqb _ _ (rw e at z) in rw some)
 

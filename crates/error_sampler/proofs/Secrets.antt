@@ -12,7 +12,7 @@ use Rattle.distr.specs.Making.{errorNumber, gaussianNumber, largest}
 use Rattle.distr.specs.Numbers.{servesCrt, tableNumber}
 use Rattle.distr.specs.Draw.{crtDraw}
 use Rattle.distr.proofs.Reading.{T-true}
-use Rattle.error_method.specs.declared.SamplingMethod.the-variants.{Gaussian}
+use Rattle.error_method.specs.declared.ErrorMethod.the-variants.{Gaussian}
 use Rattle.error_method.specs.Method.{prepared}
 use Rattle.error_sampler.specs.declared.ErrorSampler.{ErrorSampler}
 use Rattle.error_sampler.specs.Sampler.{making, isMade}

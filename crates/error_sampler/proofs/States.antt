@@ -10,7 +10,7 @@ use lib.ListN.{length}
 use Rattle.distr.specs.Making.{refuse}
 use Rattle.distr.specs.Numbers.{firstOf, stateNumbers}
 use Rattle.distr.specs.Draw.{Outcome}
-use Rattle.draw_laws.proofs.Joining.{first-within, first-after}
+use Rattle.draw_laws.proofs.Joining.{first-before, first-within, first-after}
 
 -- a test that came out true holds
 pub is-so : (b : Bool) → b ≡ true → T b
@@ -34,6 +34,16 @@ no-elements (a ∷ out) e = absurd (omega arith)
 pub zero-or-more : {C : Type 0} (n : ℕ) → (n ≡ 0 → C) → (0 < n → C) → C
 zero-or-more zero f g = f refl
 zero-or-more (suc n) f g = g (omega arith)
+
+-- 21 before one number more, by what a test told of the sampler
+module _ (made told : Bool) (k : ℕ) (e : told ≡ made) where
+  pub unmade-first : not told ≡ true → 21 ≡ firstOf (refuse (not made) 21 ∷ k ∷ [])
+  unfolding firstOf
+  unmade-first h = rw (← e, denied told h)
+
+  pub made-next : not told ≡ false → (n : ℕ) → n ≡ k → n ≡ firstOf (refuse (not made) 21 ∷ k ∷ [])
+  unfolding firstOf
+  made-next h n f = rw (← e, confirmed told h) (f ∙ sym (first-before k [] refl))
 
 module _ (words place : ℕ) (ns : List ℕ) where
   -- a number k of the state that refuses is the first, else what follows decides

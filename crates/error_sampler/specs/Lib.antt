@@ -1,3 +1,3 @@
--- Making an error sampler, which samplers making gives, and the numbers of its draws.
+-- Making an error sampler, which samplers making gives, its standard deviation, and the numbers of its draws.
 pub mod Sampler
 pub mod Numbers

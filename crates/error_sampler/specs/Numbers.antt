@@ -6,13 +6,13 @@ use lib.Dec.{eqb}
 use lib.ListN.{length}
 use Rattle.distr.specs.Making.{refuse}
 use Rattle.distr.specs.Numbers.{firstOf, stateNumbers, tooLong, modulusNumber, shapeNumber, moduliNumbers}
-use Rattle.error_method.specs.declared.SamplingMethod.{SamplingMethod}
+use Rattle.error_method.specs.declared.ErrorMethod.{ErrorMethod}
 use Rattle.error_method.specs.Method.{magnitudeOf, isBinomial}
 use Rattle.error_sampler.specs.declared.ErrorSampler.{ErrorSampler}
 use Rattle.error_sampler.specs.Sampler.{isMade}
 
 -- 6, then 10 (a modulus of 0, for the centered binomial alone, whose encoded draw is a CRT draw), then 9.
-abbrev pub residueNumbers : SamplingMethod → ℕ → ℕ → List ℕ
+abbrev pub residueNumbers : ErrorMethod → ℕ → ℕ → List ℕ
 residueNumbers method n modulus =
     tooLong n ∷ refuse (isBinomial method && eqb modulus 0) 10 ∷ modulusNumber (magnitudeOf method) modulus ∷ []
 
@@ -20,8 +20,8 @@ residueNumbers method n modulus =
 unfoldable pub encodedNumber : ErrorSampler → ℕ → ℕ → ℕ → ℕ → ℕ
 encodedNumber s words place n modulus = firstOf (stateNumbers (isMade s) words place ++ residueNumbers (s .method) n modulus)
 
--- 21, 22, 11, 6, then modulus by modulus 10 before 9: a CRT draw of `count` coefficients into n elements.
+-- 21, 22, 11, 6, then modulus by modulus 10 before 9: a CRT draw of `coefficientCount` coefficients into n elements.
 unfoldable pub crtNumber : ErrorSampler → ℕ → ℕ → ℕ → ℕ → List ℕ → ℕ
-crtNumber s words place n count moduli =
+crtNumber s words place n coefficientCount moduli =
     firstOf (stateNumbers (isMade s) words place
-    ++ (shapeNumber n count (length moduli) ∷ tooLong n ∷ moduliNumbers (magnitudeOf (s .method)) moduli))
+    ++ (shapeNumber n coefficientCount (length moduli) ∷ tooLong n ∷ moduliNumbers (magnitudeOf (s .method)) moduli))

@@ -1,21 +1,23 @@
--- Making an error sampler, and which samplers making gives.
+-- Making an error sampler, which samplers making gives, and its standard deviation.
 use mathlib.Core.Bool.{Bool, cond, _&&_}
 use lib.Dec.{eqb}
+use lib.Ieee.{Float}
 use Rattle.distr.specs.declared.error_distribution.ErrorDistribution.{ErrorDistribution}
 use Rattle.distr.specs.declared.error_distribution.ErrorDistribution.the-variants as Distr
 use Rattle.distr.specs.Making.{errorNumber}
+use Rattle.centered_binomial.specs.Deviation.{binomialDeviation}
 use Rattle.method_fields.specs.Fields.{sameFields}
-use Rattle.error_method.specs.declared.SamplingMethod.the-variants.{Empty}
+use Rattle.error_method.specs.declared.ErrorMethod.the-variants.{Empty}
 use Rattle.error_method.specs.Method.{prepared, methodFields}
 use Rattle.error_sampler.specs.declared.ErrorSampler.{ErrorSampler}
-use Rattle.error_sampler.specs.declared.MadeSampler.{MadeSampler}
+use Rattle.error_sampler.specs.declared.MadeErrorSampler.{MadeErrorSampler}
 
 -- "Making a sampler that is refused hands back an empty sampler."
 abbrev pub emptySampler : ErrorSampler
 emptySampler = record { distribution = Distr.CenteredBinomial 0; method = Empty }
 
 -- Numbers 2 to 4, or 0 and the sampler.
-abbrev pub making : ErrorDistribution → MadeSampler
+abbrev pub making : ErrorDistribution → MadeErrorSampler
 making d =
     cond (eqb (errorNumber d) 0) (record { number = 0; sampler = record { distribution = d; method = prepared d } })
     (record { number = errorNumber d; sampler = emptySampler })
@@ -24,3 +26,8 @@ making d =
 abbrev pub isMade : ErrorSampler → Bool
 isMade s =
     eqb (errorNumber (s .distribution)) 0 && sameFields (methodFields (s .method)) (methodFields (prepared (s .distribution)))
+
+-- The standard deviation of a distribution: the Gaussian's own, the centered binomial's from eta.
+abbrev pub deviationOf : ErrorDistribution → Float
+deviationOf (Distr.Gaussian deviation) = deviation
+deviationOf (Distr.CenteredBinomial eta) = binomialDeviation eta

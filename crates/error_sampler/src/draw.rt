@@ -2,14 +2,12 @@
 use crate::ErrorSampler;
 use crate::is_made;
 use distr::answer::Answer;
-use error_method::draw::sample_residues;
-use error_method::draw::sample_signed;
 use error_method::is_binomial;
 ghost use mathlib.Core.Path.{_≡_};
 ghost use Prim.Native.Nat.{_-_};
 ghost use Rattle.distr.specs.Distribution.{error};
 ghost use Rattle.distr.specs.Numbers.{firstOf, stateNumbers};
-ghost use Rattle.counts.specs.Demand3.{Meets};
+ghost use Rattle.distr.specs.Draw.{Meets};
 ghost use Rattle.distr.specs.Draw.{outcome, encodedDraw, crtDraw};
 ghost use Rattle.signed_discrete_gaussian.specs.Lent.{lent};
 ghost use Rattle.error_sampler.specs.Sampler.{isMade};
@@ -43,7 +41,7 @@ fn encoded_number(sampler: ErrorSampler, words: usize, place: usize, n: usize, m
     if is_binomial(method) & (modulus == 0) {
         return 10;
     }
-    sampler.validate_modulus(modulus)
+    crate::modulus_number(method, modulus)
 }
 
 // The number of a CRT draw into n elements: 21, 22, 11, 6, then modulus by modulus 10 before 9.
@@ -52,23 +50,27 @@ fn crt_draw_number(
     words: usize,
     place: usize,
     n: usize,
-    count: usize,
+    coefficient_count: usize,
     moduli: &[u64],
 ) -> u32
-    ensures { λ r. ⌜ r ≡ crtNumber sampler words place n count (now (moduli .entry)) ⌝ }
+    ensures { λ r. ⌜ r ≡ crtNumber sampler words place n «coefficient_count» (now (moduli .entry)) ⌝ }
 {
     let state = state_number(sampler, words, place);
     if state != 0 {
         return state;
     }
-    crt::crt_number(n, count, moduli, sampler.maximum_magnitude())
+    crt::crt_number(n, coefficient_count, moduli, sampler.maximum_magnitude())
 }
 
 // Where the last row of an output of n elements starts: at 0 where the output is empty, whatever a row's length.
-fn last_row(n: usize, count: usize) -> usize
-    ensures { λ r. ⌜ r ≡ n - count ⌝ }
+fn last_row(n: usize, coefficient_count: usize) -> usize
+    ensures { λ r. ⌜ r ≡ n - «coefficient_count» ⌝ }
 {
-    if n < count { 0 } else { n - count }
+    if n < coefficient_count {
+        0
+    } else {
+        n - coefficient_count
+    }
 }
 
 impl ErrorSampler {
@@ -76,12 +78,12 @@ impl ErrorSampler {
     pub fn sample_signed_to(
         self,
         output: &mut [i64],
-        words: &[u32],
-        place: usize,
         bounds: &[u64],
         endpoints: &[u64],
         heights: &[f64],
         curve: &[f64],
+        words: &[u32],
+        place: usize,
     ) -> Answer
         ensures { λ r. ⌜ Meets (isMade self) (error (self .distribution))
             (lent (now (bounds .entry)) (now (endpoints .entry)) (now (heights .entry)) (now (curve .entry)))
@@ -91,15 +93,17 @@ impl ErrorSampler {
             return Answer { number: 21, place };
         }
         let method = self.method;
-        sample_signed(
-            method,
+        let encoding = output_i64::Encoding {};
+        error_draws_i64::sample_to_with(
             output,
-            words,
-            place,
+            encoding,
+            method,
             bounds,
             endpoints,
             heights,
             curve,
+            words,
+            place,
         )
     }
 
@@ -109,12 +113,12 @@ impl ErrorSampler {
         self,
         output: &mut [u64],
         modulus: u64,
-        words: &[u32],
-        place: usize,
         bounds: &[u64],
         endpoints: &[u64],
         heights: &[f64],
         curve: &[f64],
+        words: &[u32],
+        place: usize,
     ) -> Answer
         ensures { λ r. ⌜ outcome r (now (output .exit)) ≡
             encodedDraw (isMade self) (error (self .distribution))
@@ -127,16 +131,17 @@ impl ErrorSampler {
         }
         let method = self.method;
         let minus_one = modulus - 1;
-        sample_residues(
-            method,
+        let encoding = output_u64::Encoding { minus_one };
+        error_draws_u64::sample_to_with(
             output,
-            minus_one,
-            words,
-            place,
+            encoding,
+            method,
             bounds,
             endpoints,
             heights,
             curve,
+            words,
+            place,
         )
     }
 
@@ -146,42 +151,41 @@ impl ErrorSampler {
     pub fn sample_crt_to(
         self,
         output: &mut [u64],
-        count: usize,
+        coefficient_count: usize,
         moduli: &[u64],
-        words: &[u32],
-        place: usize,
         bounds: &[u64],
         endpoints: &[u64],
         heights: &[f64],
         curve: &[f64],
+        words: &[u32],
+        place: usize,
     ) -> Answer
         ensures { λ r. ⌜ outcome r (now (output .exit)) ≡
             crtDraw (isMade self) (error (self .distribution))
             (lent (now (bounds .entry)) (now (endpoints .entry)) (now (heights .entry)) (now (curve .entry)))
-            count (now (moduli .entry)) (now (words .entry)) place (now (output .entry)) ⌝ }
+            «coefficient_count» (now (moduli .entry)) (now (words .entry)) place (now (output .entry)) ⌝ }
     {
         let n = output.len();
-        let number = crt_draw_number(self, words.len(), place, n, count, moduli);
+        let number = crt_draw_number(self, words.len(), place, n, coefficient_count, moduli);
         if number != 0 {
             return Answer { number, place };
         }
         let method = self.method;
-        let last = last_row(n, count);
-        let minus_one = 0xffff_ffff_ffff_ffff;
-        let answer = sample_residues(
-            method,
+        let last = last_row(n, coefficient_count);
+        let encoding = output_u64::Encoding {
+            minus_one: 0xffff_ffff_ffff_ffff,
+        };
+        let answer = error_draws_u64::sample_to_with(
             &mut output[last..],
-            minus_one,
-            words,
-            place,
+            encoding,
+            method,
             bounds,
             endpoints,
             heights,
             curve,
+            words,
+            place,
         );
-        if (answer.number == 12) | (answer.number == 13) {
-            return answer;
-        }
-        crt::finish(output, count, moduli, answer)
+        crt::finish(output, coefficient_count, moduli, answer)
     }
 }

@@ -1,42 +1,45 @@
-// Error coefficients from lent words: a prepared sampler with signed, encoded and CRT output. The row of one
-// modulus is that part of a CRT output, by crt_row.
+// Behind primus_distr, by which callers reach it: error coefficients from lent words, by a prepared sampler with signed, encoded and
+// CRT output. The row of one modulus is that part of a CRT output, by crt_row.
 pub mod draw;
 
+use centered_binomial::deviation::standard_deviation as binomial_deviation;
 pub use crt::crt_row;
 use distr::error_distribution::ErrorDistribution;
-pub use error_method::SamplingMethod;
+pub use error_method::ErrorMethod;
 use error_method::method_fields;
 use error_method::prepare;
 use method_fields::same_fields;
 ghost use mathlib.Core.Path.{_≡_};
-ghost use Rattle.distr.specs.Distribution.{error, onDeviation};
-ghost use Rattle.distr.specs.Gaussian.{literal};
-ghost use Rattle.distr.specs.Numbers.{modulusNumber};
+ghost use mathlib.Core.Bool.{not};
+ghost use mathlib.Core.List.{[], _∷_};
+ghost use Rattle.distr.specs.Distribution.{error};
+ghost use Rattle.distr.specs.Making.{refuse, largest};
+ghost use Rattle.distr.specs.Numbers.{firstOf, modulusNumber};
 ghost use Rattle.error_method.specs.Method.{magnitudeOf};
-ghost use Rattle.error_sampler.specs.Sampler.{making, isMade};
+ghost use Rattle.error_sampler.specs.Sampler.{making, isMade, deviationOf};
 
 // A prepared sampler. Its fields are public, so a draw judges first whether making gives it (21).
 pub struct ErrorSampler {
     pub distribution: ErrorDistribution,
-    pub method: SamplingMethod,
+    pub method: ErrorMethod,
 }
 
 // What making hands back: number 0 and the sampler, or the number that refuses and the empty sampler.
-pub struct MadeSampler {
+pub struct MadeErrorSampler {
     pub number: u32,
     pub sampler: ErrorSampler,
 }
 
 impl ErrorSampler {
     // Prepares a distribution: 2 or 3 for a bad deviation, 4 for a bad eta, else the sampler.
-    pub fn try_new(distribution: ErrorDistribution) -> MadeSampler
+    pub fn try_new(distribution: ErrorDistribution) -> MadeErrorSampler
         ensures { λ r. ⌜ r ≡ making distribution ⌝ }
     {
         let prepared = prepare(distribution);
         let number = prepared.number;
         let method = prepared.method;
         if number == 0 {
-            MadeSampler {
+            MadeErrorSampler {
                 number: 0,
                 sampler: ErrorSampler {
                     distribution,
@@ -44,24 +47,25 @@ impl ErrorSampler {
                 },
             }
         } else {
-            MadeSampler {
+            MadeErrorSampler {
                 number,
                 sampler: ErrorSampler {
                     distribution: ErrorDistribution::CenteredBinomial { eta: 0 },
-                    method: SamplingMethod::Empty,
+                    method: ErrorMethod::Empty,
                 },
             }
         }
     }
 
-    // The distribution.
+    // The distribution; of a sampler that making never gives, the one that it holds (the empty sampler holds a centered binomial of eta 0).
     pub fn distribution(self) -> ErrorDistribution
         ensures { λ r. ⌜ r ≡ self .distribution ⌝ }
     {
         self.distribution
     }
 
-    // An inclusive bound on every coefficient's magnitude: the Gaussian's support or eta, and 1 for the empty sampler.
+    // An inclusive bound on every coefficient's magnitude: the Gaussian's support or eta. For a sampler that making never
+    // gives, the support or eta that its method holds, and 1 for the empty one: nothing is drawn by it.
     pub fn maximum_magnitude(self) -> u64
         ensures { λ r. ⌜ r ≡ magnitudeOf (self .method) ⌝ }
     {
@@ -69,26 +73,37 @@ impl ErrorSampler {
         error_method::maximum_magnitude(method)
     }
 
-    // The Gaussian's deviation. The centered binomial's, the square root of eta / 2, is not given here: 0.0, which no Gaussian has, stands for it.
+    // The Gaussian's deviation, or the f64 nearest to the centered binomial's, the root of eta / 2. The empty sampler has eta 0, and 0.0.
     pub fn standard_deviation(self) -> f64
-        ensures { λ r. ⌜ r ≡ onDeviation (error (self .distribution)) (λ deviation. deviation) (literal 0 1) ⌝ }
+        ensures { λ r. ⌜ r ≡ deviationOf (self .distribution) ⌝ }
     {
         let distribution = self.distribution;
         match distribution {
             ErrorDistribution::Gaussian { standard_deviation } => standard_deviation,
-            ErrorDistribution::CenteredBinomial { eta: _ } => 0.0,
+            ErrorDistribution::CenteredBinomial { eta } => binomial_deviation(eta),
         }
     }
 
-    // 0, or 9 for a modulus that is not above the largest magnitude.
+    // 0, or 21 for a sampler that making never gives, 9 for a modulus that is not above the largest magnitude.
     pub fn validate_modulus(self, modulus: u64) -> u32
-        ensures { λ r. ⌜ r ≡ modulusNumber (magnitudeOf (self .method)) modulus ⌝ }
+        ensures { λ r. ⌜ r ≡ firstOf (refuse (not (isMade self)) 21 ∷ modulusNumber (largest (error (self .distribution))) modulus ∷ []) ⌝ }
     {
-        if modulus <= self.maximum_magnitude() {
-            9
-        } else {
-            0
+        if !is_made(self) {
+            return 21;
         }
+        let method = self.method;
+        modulus_number(method, modulus)
+    }
+}
+
+// 9 for a modulus that is not above the largest magnitude of the method, else 0.
+pub(crate) fn modulus_number(method: ErrorMethod, modulus: u64) -> u32
+    ensures { λ r. ⌜ r ≡ modulusNumber (magnitudeOf method) modulus ⌝ }
+{
+    if modulus <= error_method::maximum_magnitude(method) {
+        9
+    } else {
+        0
     }
 }
 

@@ -1,7 +1,7 @@
 -- Insertion with the choices read on the way: it is the rule's, it keeps to any map of the values, and a loop's turn does one step of it.
 use mathlib.Core.Path.{_≡_, refl, sym, ap, _∙_}
 use mathlib.Core.List.{List, [], _∷_, _++_, map}
-use Prim.Native.Nat.{ℕ, zero, suc, _+_, _<_, _≤_}
+use Prim.Native.Nat.{ℕ, zero, suc, _<_, _≤_}
 use native.Mathlib.Omega.{arith}
 use lib.ListN.{length, getD, take, set, length-append, length-set, length-map, List·getD-map}
 use lib.Seq.{take-set-lt, take-suc-set, length-take-le, getD-take}

@@ -1,7 +1,7 @@
 -- A draw with weights: its numbers decide, and where they pass it is what its rule's reading settles.
-use mathlib.Core.Path.{_≡_, refl}
+use mathlib.Core.Path.{_≡_, refl, sym, ap, subst, _∙_}
 use mathlib.Core.List.{List}
-use Prim.Native.Nat.{ℕ, _-_, _^_, _<_, _≤_}
+use Prim.Native.Nat.{ℕ, zero, suc, _-_, _^_, _<_, _≤_}
 use native.Mathlib.Omega.{arith}
 use lib.Dec.{ltb}
 use borrow.Author.Tests.{ltb-false, le-ltb}
@@ -16,7 +16,8 @@ use Rattle.numbers.proofs.Refusing.{number-passed, rule-refused, rule-passed}
 use Rattle.fixed_weights.specs.declared.plans.Plan.{Plan}
 use Rattle.fixed_weights.specs.declared.plans.Planning.{Planning}
 use Rattle.fixed_weights.specs.declared.plans.Planning.the-variants.{By, Refused}
-use Rattle.fixed_weights.specs.Plans.{Planned, Plans, weightNumber}
+use Rattle.fixed_weights.specs.Plans.{planning, weightNumber}
+use Rattle.fixed_weights.proofs.PlanRules.{Planned}
 
 -- a weight that fits is not refused, and one that is not refused fits
 pub not-heavy : (weight n : ℕ) → weight ≤ n → n < 2 ^ 64 → badWeight weight n ≡ 0
@@ -26,27 +27,48 @@ light : (weight n : ℕ) → badWeight weight n ≡ 0 → weight ≤ n
 light weight n e = ltb-false n weight (or-false (ltb n weight) _ (not-refused _ 6 e) .0)
 
 -- what is known where the numbers let a draw pass
-pub record Passed (count place n weight : ℕ) : Type 0 where
-  pub there : place ≤ count
-  pub short-enough : n ≤ 65536
+pub record Passed (wordCount place n weight : ℕ) : Type 0 where
+  pub there : place ≤ wordCount
   pub light : weight ≤ n
 
-pub passed : {count place n weight k : ℕ} → k ≡ weightNumber count place n weight → k ≡ 0 → Passed count place n weight
-passed {count} {place} {n} {weight} e z =
-    let good = number-passed count place n (badWeight weight n) e z in
-    record { there = good .0; short-enough = good .1; light = light weight n (good .2) }
+pub passed : {wordCount place n weight k : ℕ} → k ≡ weightNumber wordCount place n weight → k ≡ 0 → Passed wordCount place n weight
+passed {wordCount} {place} {n} {weight} e z =
+    let good = number-passed wordCount place n (badWeight weight n) e z in
+    record { there = good .0; light = light weight n (good .2) }
+
+-- what a function that plans hands back, by its number
+pub planning-refused : (k : ℕ) {number : ℕ} (p : Plan) → k ≡ number → (k ≡ 0 → ⊥) → Refused k ≡ planning number p
+unfolding planning
+planning-refused zero p e ne = absurd (ne refl)
+planning-refused (suc k) p e ne = rw (← e)
+
+pub planning-by : {number k : ℕ} {p q : Plan} → q ≡ p → k ≡ number → k ≡ 0 → By q ≡ planning number p
+unfolding planning
+planning-by same e z = rw (← e, z) (ap By same)
+
+-- and what a caller learns from it
+told-by : (number : ℕ) {p q : Plan} → By q ≡ planning number p → (number ≡ 0) × (p ≡ q)
+unfolding planning
+told-by zero {p} {q} e = let same : By q ≡ By p = e in (refl, cc)
+told-by (suc k) {p} {q} e = let no : By q ≡ Refused (suc k) = e in let z : _≡_ {A = ℕ} 0 1 = cc in absurd (omega arith)
+
+told-refused : (number : ℕ) (p : Plan) {k : ℕ} → Refused k ≡ planning number p → (k ≡ number) × (k ≡ 0 → ⊥)
+unfolding planning
+told-refused zero p {k} e = let no : Refused k ≡ By p = e in let z : _≡_ {A = ℕ} 0 1 = cc in absurd (omega arith)
+told-refused (suc m) p {k} e = let same : Refused k ≡ Refused (suc m) = e in let is : k ≡ suc m = cc in (is, λ z. omega arith)
 
 -- what is known where a plan is handed back
-pub record Begun (rule : Rule) (count place n weight : ℕ) (p : Plan) : Type 0 where
-  pub none : weightNumber count place n weight ≡ 0
-  pub there : place ≤ count
+pub record Begun (rule : Rule) (wordCount place n weight : ℕ) (p : Plan) : Type 0 where
+  pub none : weightNumber wordCount place n weight ≡ 0
+  pub there : place ≤ wordCount
   pub of-rule : Planned rule n p
 
-pub by-plan : (rule : Rule) (count place n weight : ℕ) (r : Planning) {p : Plan} → Plans rule n (weightNumber count place n weight) r → r ≡ By p
-    → Begun rule count place n weight p
-by-plan rule count place n weight r d e =
-    let made = rw e at d in
-    record { none = made .0; there = passed {n = n} {weight = weight} refl (made .0) .there; of-rule = made .1 }
+pub by-plan : {rule : Rule} (wordCount place n weight : ℕ) {r : Planning} {p q : Plan} → (weight ≤ n → Planned rule n p)
+    → r ≡ planning (weightNumber wordCount place n weight) p → r ≡ By q → Begun rule wordCount place n weight q
+by-plan {rule} wordCount place n weight of-rule d e =
+    let told = told-by (weightNumber wordCount place n weight) (sym e ∙ d) in
+    let good = passed {n = n} {weight = weight} refl (told .0) in
+    record { none = told .0; there = good .there; of-rule = subst (Planned rule n) (told .1) (of-rule (good .light)) }
 
 module _ {A : Type 0} (write : List ℤ → List A) (rule : Rule) (words : List ℕ) (place weight : ℕ) (out : List A) {k : ℕ}
     (number : k ≡ weightNumber (length words) place (length out) weight) where
@@ -58,7 +80,9 @@ module _ {A : Type 0} (write : List ℤ → List A) (rule : Rule) (words : List 
   accepted = rule-passed write (badWeight weight (length out)) words place out number rule
 
 -- a number is handed back in a plan's stead
-pub by-number : {A : Type 0} (write : List ℤ → List A) (rule : Rule) (words : List ℕ) (place weight : ℕ) (out : List A) (r : Planning) {k : ℕ}
-    → Plans rule (length out) (weightNumber (length words) place (length out) weight) r → r ≡ Refused k
+pub by-number : {A : Type 0} (write : List ℤ → List A) (rule : Rule) (words : List ℕ) (place weight : ℕ) (out : List A) (p : Plan) {r : Planning} {k : ℕ}
+    → r ≡ planning (weightNumber (length words) place (length out) weight) p → r ≡ Refused k
     → record { number = k; place = place; output = out } ≡ ruleDraw write (badWeight weight (length out)) rule words place out
-by-number write rule words place weight out r d e = let told = rw e at d in refused write rule words place weight out (told .0) (told .1)
+by-number write rule words place weight out p d e =
+    let told = told-refused (weightNumber (length words) place (length out) weight) p (sym e ∙ d) in
+    refused write rule words place weight out (told .0) (told .1)

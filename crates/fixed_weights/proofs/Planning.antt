@@ -1,23 +1,23 @@
 -- A draw by a plan is the draw by its rule, over how the output holds coefficients.
 use mathlib.Core.Path.{_≡_, refl, sym, ap, ap₂, _∙_}
 use mathlib.Core.List.{List, [], _∷_, _++_, map}
-use Prim.Native.Nat.{ℕ, zero, suc, _+_, _-_, _<_}
-use native.Mathlib.Nat.{sub-zero}
+use Prim.Native.Nat.{ℕ, zero, suc, _-_, _<_}
 use native.Mathlib.Omega.{arith}
 use lib.ListN.{length, getD, drop, replicate, length-append, length-replicate}
-use lib.IntN.{ℤ, pos, natAbs, +ℤ-idr}
+use lib.IntN.{ℤ, pos}
 use Rattle.distr.specs.Words.{Read, got, short, mapRead, chooseEach}
 use Rattle.distr.specs.Rule.{Rule, readBy}
 use Rattle.distr.specs.Packed.{minusOne}
-use Rattle.distr.specs.Encoding.{encodeWith, signedWith}
+use Rattle.distr.specs.Encoding.{encodeWith}
 use Rattle.distr.specs.Insertion.{countUp, insertEach}
 use Rattle.distr.specs.Numbers.{badWeight}
 use Rattle.distr.specs.Draw.{Outcome, settled, ruleDraw}
 use Rattle.distr.proofs.Writing.{map-append, map-replicate, map-id}
 use Rattle.fixed_weights.specs.declared.plans.Plan.{Plan}
 use Rattle.fixed_weights.specs.Table.{entries}
-use Rattle.fixed_weights.specs.Plans.{codeValue, planned, codes, planRule, Ready, Planned, weightNumber}
+use Rattle.fixed_weights.specs.Plans.{planned, codes, Ready, weightNumber}
 use Rattle.fixed_weights.specs.Inserting.{insertAll, placed, inserting}
+use Rattle.fixed_weights.proofs.PlanRules.{codeValue, planRule, Planned}
 use Rattle.fixed_weights.proofs.Judging.{accepted}
 use Rattle.fixed_weights.proofs.Inserting.{rule-inserts, map-insert}
 
@@ -34,34 +34,20 @@ by-codes val minus one z e f g (suc zero) l = f
 by-codes val minus one z e f g (suc (suc zero)) l = g
 by-codes val minus one z e f g (suc (suc (suc c))) l = absurd (omega arith)
 
--- signed values as they are, and their magnitudes
-pub holds-itself : Holds (pos 0) (λ (cs : List ℤ). cs) (λ (c : ℤ). c) (minusOne ∷ pos 1 ∷ pos 0 ∷ [])
-holds-itself = record { writes = λ cs. sym (map-id cs); zeros = refl; tabled = by-codes (λ (c : ℤ). c) minusOne (pos 1) (pos 0) refl refl refl }
+-- coefficients as they are: signed output
+pub holds-signed : {minus : ℤ} → minus ≡ minusOne → Holds (pos 0) (λ (cs : List ℤ). cs) (λ (c : ℤ). c) (minus ∷ pos 1 ∷ pos 0 ∷ [])
+holds-signed {minus} e = record { writes = λ cs. sym (map-id cs); zeros = refl; tabled = by-codes (λ (c : ℤ). c) minus (pos 1) (pos 0) e refl refl }
 
-pub holds-magnitude : Holds 0 (map natAbs) natAbs (1 ∷ 1 ∷ 0 ∷ [])
-holds-magnitude = record { writes = λ cs. refl; zeros = refl; tabled = by-codes natAbs 1 1 0 refl refl refl }
-
--- −1 as the caller holds it
-pub holds-signed : (minus held : ℤ) → held ≡ minus → Holds (pos 0) (map (signedWith minus)) (signedWith minus) (held ∷ pos 1 ∷ pos 0 ∷ [])
-holds-signed minus held e = record {
-  writes = λ cs. refl;
-  zeros = refl;
-  tabled = by-codes (signedWith minus) held (pos 1) (pos 0) (e ∙ sym (+ℤ-idr minus)) refl refl;
-}
-
-pub holds-residue : (minus : ℕ) → Holds 0 (map (encodeWith minus)) (encodeWith minus) (minus ∷ 1 ∷ 0 ∷ [])
-holds-residue minus = record {
-  writes = λ cs. refl;
-  zeros = refl;
-  tabled = by-codes (encodeWith minus) minus 1 0 (sym (sub-zero minus)) refl refl;
-}
+-- −1 as the caller holds it: residues
+pub holds-residue : (one minus : ℕ) → minus ≡ encodeWith one minusOne → Holds 0 (map (encodeWith one)) (encodeWith one) (minus ∷ 1 ∷ 0 ∷ [])
+holds-residue one minus e = record { writes = λ cs. refl; zeros = refl; tabled = by-codes (encodeWith one) minus 1 0 e refl refl }
 
 module _ {A : Type 0} {z : A} {write : List ℤ → List A} {val : ℤ → A} {table : List A} (h : Holds z write val table) where
   -- a reading settled is a reading placed
-  pub settled-placed : (count place n : ℕ) (r : Read (List ℤ)) → settled write count place n r ≡ placed z count place n (mapRead (map val) r)
+  pub settled-placed : (wordCount place n : ℕ) (r : Read (List ℤ)) → settled write wordCount place n r ≡ placed z wordCount place n (mapRead (map val) r)
   unfolding settled placed mapRead
-  settled-placed count place n (got cs rest) = rw (h .writes cs)
-  settled-placed count place n short = rw (h .writes (replicate n (pos 0)), map-replicate val n (pos 0), h .zeros)
+  settled-placed wordCount place n (got cs rest) = rw (h .writes cs)
+  settled-placed wordCount place n short = rw (h .writes (replicate n (pos 0)), map-replicate val n (pos 0), h .zeros)
 
   -- a plan's copies, from the table
   copies : (m c : ℕ) → c < 3 → map val (replicate m (codeValue c)) ≡ replicate m (getD table c z)
@@ -90,12 +76,12 @@ module _ {A : Type 0} {z : A} {write : List ℤ → List A} {val : ℤ → A} {t
       (copies left (p .fill) (ready .fill-code) ∙ ap (λ (k : ℕ). replicate (n - k) (getD table (p .fill) z)) size)
 
   -- the answer of a draw by a plan is the rule's
-  plan-settles : (rule : Rule) (n : ℕ) (p : Plan) (count place : ℕ) (ws : List ℕ) → Planned rule n p
-      → placed z count place n (inserting table z p n ws) ≡ settled write count place n (readBy rule ws)
-  plan-settles rule n p count place ws of-rule =
-      ap (placed z count place n) (sym (plan-inserts n p ws (of-rule .ready)))
-      ∙ ap (λ (r : Rule). placed z count place n (mapRead (map val) (readBy r ws))) (of-rule .same)
-      ∙ sym (settled-placed count place n (readBy rule ws))
+  plan-settles : (rule : Rule) (n : ℕ) (p : Plan) (wordCount place : ℕ) (ws : List ℕ) → Planned rule n p
+      → placed z wordCount place n (inserting table z p n ws) ≡ settled write wordCount place n (readBy rule ws)
+  plan-settles rule n p wordCount place ws of-rule =
+      ap (placed z wordCount place n) (sym (plan-inserts n p ws (of-rule .ready)))
+      ∙ ap (λ (r : Rule). placed z wordCount place n (mapRead (map val) (readBy r ws))) (of-rule .same)
+      ∙ sym (settled-placed wordCount place n (readBy rule ws))
 
   pub plan-draws : {rule : Rule} {p : Plan} {k : ℕ} {o : Outcome A} (words : List ℕ) (place weight : ℕ) (out : List A)
       → k ≡ weightNumber (length words) place (length out) weight → k ≡ 0 → Planned rule (length out) p

@@ -1,86 +1,89 @@
 -- The loop that inserts signs, over any kind of value: what is read from the words left now is what is read from those left at first.
 use mathlib.Core.Path.{_≡_, sym, ap, _∙_}
-use mathlib.Core.List.{List, []}
+use mathlib.Core.List.{List}
 use Prim.Native.Nat.{ℕ, suc, _+_, _-_, _<_, _≤_}
 use native.Mathlib.Numerals.{add-one}
 use native.Mathlib.Omega.{arith}
 use lib.ListN.{length, getD, take, drop, set, replicate, length-replicate}
 use lib.Seq.{length-take-le}
 use Rattle.distr.specs.Words.{Read, got, short, bindRead}
-use Rattle.distr.specs.Packed.{digits}
 use Rattle.distr.specs.Draw.{Outcome}
-use Rattle.fixed_weights.specs.Inserting.{Signed, signedChoice, insertedAt, insertSigns, placed, insertingSigns, Drew}
+use Rattle.fixed_weights.specs.declared.choices.Signing.the-variants.{Got, Short}
+use Rattle.fixed_weights.specs.Inserting.{SignAndPlace, signAndPlace, signing, insertedAt, insertSigns, placed, insertingSigns}
+use Rattle.fixed_weights.proofs.Signs.{drew, signing-short}
 use Rattle.fixed_weights.proofs.Turns.{Turn, turn-end, turn-next, take-replicate, placed-got, placed-short}
 
 -- one sign more: its choice, and then the others
-module _ {A : Type 0} (value : ℕ → A) (m : ℕ) (bits : List ℕ) (xs : List A) (ws : List ℕ) where
-  signs-step : (c : Signed) (rest : List ℕ) → signedChoice (suc (length xs)) bits ws ≡ got c rest
-      → insertSigns value (suc m) bits xs ws ≡ insertSigns value m (c .bits) (insertedAt (value (c .bit)) xs (c .chosen)) rest
+module _ {A : Type 0} (value : ℕ → A) (m w left : ℕ) (xs : List A) (ws : List ℕ) where
+  signs-step : (c : SignAndPlace) (rest : List ℕ) → signAndPlace (suc (length xs)) w left ws ≡ got c rest
+      → insertSigns value (suc m) w left xs ws ≡ insertSigns value m (c .rest) (c .fewer) (insertedAt (value (c .bit)) xs (c .chosen)) rest
   unfolding insertSigns bindRead
   signs-step c rest e = rw e
 
-  signs-stop : signedChoice (suc (length xs)) bits ws ≡ short → insertSigns value (suc m) bits xs ws ≡ short
+  signs-stop : signAndPlace (suc (length xs)) w left ws ≡ short → insertSigns value (suc m) w left xs ws ≡ short
   unfolding insertSigns bindRead
   signs-stop e = rw e
 
-module _ {A : Type 0} (z : A) (table : List A) (words : List ℕ) (n count place : ℕ) where
+module _ {A : Type 0} (z : A) (table : List A) (words : List ℕ) (n weight place : ℕ) where
   abbrev goal : Read (List A)
-  goal = insertingSigns table z count n (drop place words)
+  goal = insertingSigns table z weight n (drop place words)
 
   -- the signs still to be inserted at index i, `left` of them at hand, the lowest bits of w
   abbrev still : ℕ → ℕ → ℕ → List A → List ℕ → Read (List A)
-  still i w left = insertSigns (λ b. getD table b z) (n - i) (digits 2 left w)
+  still i w left = insertSigns (λ b. getD table b z) (n - i) w left
 
   pub record SignTurn (i at w left : ℕ) (out : List A) : Type 0 where
     pub turn : Turn words n goal (still i w left) i at out
 
-module _ {A : Type 0} {z : A} {table : List A} {words : List ℕ} {n count place : ℕ} where
-  pub signs-start : {out : List A} → count ≤ n → place ≤ length words → out ≡ replicate n (getD table 2 z)
-      → SignTurn z table words n count place (n - count) place 0 0 out
-  unfolding digits
+module _ {A : Type 0} {z : A} {table : List A} {words : List ℕ} {n weight place : ℕ} where
+  pub signs-start : {out : List A} → weight ≤ n → place ≤ length words → out ≡ replicate n (getD table 2 z)
+      → SignTurn z table words n weight place (n - weight) place 0 0 out
   signs-start {out} h w e =
-      let all : n - (n - count) ≡ count = omega arith in
+      let all : n - (n - weight) ≡ weight = omega arith in
       record {
         turn = record {
           reach = omega arith;
           size = ap length e ∙ length-replicate n (getD table 2 z);
           within = w;
           reading = rw all
-              (ap (λ (t : List A). insertSigns (λ b. getD table b z) count [] t (drop place words))
-              (ap (take (n - count)) e ∙ take-replicate (n - count) n (getD table 2 z) (omega arith)));
+              (ap (λ (t : List A). insertSigns (λ b. getD table b z) weight 0 0 t (drop place words))
+              (ap (take (n - weight)) e ∙ take-replicate (n - weight) n (getD table 2 z) (omega arith)));
         };
       }
 
-  module _ {i at w left : ℕ} {out : List A} (t : SignTurn z table words n count place i at w left out) where
-    pub signs-done : n ≤ i → _≡_ {A = Outcome A} (record { number = 0; place = at; output = out }) (placed z (length words) place n (goal z table words n count place))
+  module _ {i at w left : ℕ} {out : List A} (t : SignTurn z table words n weight place i at w left out) where
+    pub signs-done : n ≤ i → _≡_ {A = Outcome A} (record { number = 0; place = at; output = out }) (placed z (length words) place n (goal z table words n weight place))
     unfolding insertSigns
     signs-done h =
         let none : n - i ≡ 0 = omega arith in
         placed-got z words place n _ at out (t .turn .within)
-        (turn-end words n (goal z table words n count place) (still z table words n count place i w left) i at out (t .turn) h (λ xs ws. rw none))
+        (turn-end words n (goal z table words n weight place) (still z table words n weight place i w left) i at out (t .turn) h (λ xs ws. rw none))
 
     module _ (more : i < n) where
       -- a choice among i + 1 comes next
-      one-more : still z table words n count place i w left (take i out) (drop at words)
-          ≡ insertSigns (λ b. getD table b z) (suc (n - suc i)) (digits 2 left w) (take i out) (drop at words)
-      one-more = ap (λ (m : ℕ). insertSigns (λ b. getD table b z) m (digits 2 left w) (take i out) (drop at words)) (omega arith)
+      one-more : still z table words n weight place i w left (take i out) (drop at words)
+          ≡ insertSigns (λ b. getD table b z) (suc (n - suc i)) w left (take i out) (drop at words)
+      one-more = ap (λ (m : ℕ). insertSigns (λ b. getD table b z) m w left (take i out) (drop at words)) (omega arith)
 
-      choice : signedChoice (suc (length (take i out))) (digits 2 left w) (drop at words) ≡ signedChoice (i + 1) (digits 2 left w) (drop at words)
-      choice = ap (λ (k : ℕ). signedChoice k (digits 2 left w) (drop at words)) (omega (arith, length-take-le i out (omega (arith, t .turn .size))))
+      choice : signAndPlace (suc (length (take i out))) w left (drop at words) ≡ signAndPlace (i + 1) w left (drop at words)
+      choice = ap (λ (k : ℕ). signAndPlace k w left (drop at words)) (omega (arith, length-take-le i out (omega (arith, t .turn .size))))
 
-      pub signs-next : {bit s rest fewer after : ℕ} {out′ : List A} → Drew words at w left (i + 1) bit s rest fewer after
-          → out′ ≡ set (set out i (getD out s z)) s (getD table bit z) → SignTurn z table words n count place (i + 1) after rest fewer out′
-      signs-next {bit} {s} {rest} {fewer} {after} d o =
+      pub signs-next : {bit s rest fewer after : ℕ} {out′ : List A}
+          → Got bit s rest fewer after ≡ signing (length words) (signAndPlace (i + 1) w left (drop at words))
+          → out′ ≡ set (set out i (getD out s z)) s (getD table bit z) → SignTurn z table words n weight place (i + 1) after rest fewer out′
+      signs-next {bit} {s} {rest} {fewer} {after} e o =
+          let d = drew words (i + 1) at w left e in
           rw o
           (record {
-            turn = turn-next words n _ _ i at out (t .turn) (still z table words n count place (i + 1) rest fewer) s after (getD table bit z) z more (d .below) (d .within)
+            turn = turn-next words n _ _ i at out (t .turn) (still z table words n weight place (i + 1) rest fewer) s after (getD table bit z) z more (d .below) (d .within)
                 (rw (add-one i)
-                (one-more ∙ signs-step (λ b. getD table b z) (n - suc i) (digits 2 left w) (take i out) (drop at words) _ _ (choice ∙ d .reads)));
+                (one-more ∙ signs-step (λ b. getD table b z) (n - suc i) w left (take i out) (drop at words) _ _ (choice ∙ d .reads)));
           })
 
-      pub signs-short : {out′ : List A} → signedChoice (i + 1) (digits 2 left w) (drop at words) ≡ short → out′ ≡ replicate (length out) z
-          → _≡_ {A = Outcome A} (record { number = 23; place = place; output = out′ }) (placed z (length words) place n (goal z table words n count place))
+      pub signs-short : {out′ : List A} → Short ≡ signing (length words) (signAndPlace (i + 1) w left (drop at words)) → out′ ≡ replicate (length out) z
+          → _≡_ {A = Outcome A} (record { number = 23; place = place; output = out′ }) (placed z (length words) place n (goal z table words n weight place))
       signs-short e o = rw (o, t .turn .size)
           (placed-short z words place n _
           (sym (t .turn .reading) ∙ one-more
-          ∙ signs-stop (λ b. getD table b z) (n - suc i) (digits 2 left w) (take i out) (drop at words) (choice ∙ e)))
+          ∙ signs-stop (λ b. getD table b z) (n - suc i) w left (take i out) (drop at words)
+          (choice ∙ signing-short (length words) (signAndPlace (i + 1) w left (drop at words)) e)))

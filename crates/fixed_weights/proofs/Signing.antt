@@ -1,7 +1,7 @@
 -- A draw of signs at chosen places is the draw by the rule of a fixed ternary weight, over how the output holds coefficients.
 use mathlib.Core.Path.{_≡_, refl, sym, ap, _∙_}
 use mathlib.Core.List.{List, [], _∷_, map}
-use Prim.Native.Nat.{ℕ, zero, suc, _-_, _/_, _^_, _<_}
+use Prim.Native.Nat.{ℕ, zero, suc, _-_, _/_, _%_, _^_, _<_}
 use native.Mathlib.Nat.{mod-lt}
 use native.Mathlib.Omega.{arith}
 use borrow.Author.Tests.{eq-eqb, ne-eqb}
@@ -16,37 +16,41 @@ use Rattle.distr.specs.Draw.{Outcome, ruleDraw}
 use Rattle.distr.proofs.Reading.{short-not-got}
 use Rattle.distr.proofs.Writing.{map-replicate}
 use Rattle.fixed_weights.specs.Plans.{weightNumber}
-use Rattle.fixed_weights.specs.Inserting.{Signed, signedChoice, insertedAt, insertSigns, placed, insertingSigns}
+use Rattle.fixed_weights.specs.Inserting.{SignAndPlace, lowestSignAndPlace, signAndPlace, insertedAt, insertSigns, placed, insertingSigns}
 use Rattle.fixed_weights.proofs.Inserting.{map-bind, bind-same, bind-bind, map-read-twice, bind-map, length-inserted, map-inserted}
 use Rattle.fixed_weights.proofs.Judging.{not-heavy, accepted}
 use Rattle.fixed_weights.proofs.Planning.{Holds, settled-placed}
 
--- the rule's signed insertion is this one
-pub rule-signs : (m : ℕ) (bits : List ℕ) (xs : List ℤ) (ws : List ℕ)
-    → mapRead (λ ds. insertSigned ds xs) (chooseSigned (countUp (suc (length xs)) m) bits ws) ≡ insertSigns signValue m bits xs ws
-unfolding mapRead chooseSigned countUp insertSigned insertSigns inserted insertedAt signedChoice
-rule-signs zero bits xs ws = refl
-rule-signs (suc m) bits xs ws =
-    map-bind (λ (ds : List ℕ). insertSigned ds xs) (signs bits ws) _
-    ∙ bind-same (signs bits ws) _ _ (λ bs rest.
-    map-bind (λ (ds : List ℕ). insertSigned ds xs) (choose (suc (length xs)) rest) _
-    ∙ bind-same (choose (suc (length xs)) rest) _ _ (λ s left.
-    map-read-twice (λ (ds : List ℕ). insertSigned ds xs) (λ (ds : List ℕ). getD bs 0 0 ∷ s ∷ ds) (chooseSigned (countUp (suc (suc (length xs))) m) (drop 1 bs) left)
-    ∙ ap (λ (k : ℕ). mapRead (λ (ds : List ℕ). insertSigned ds (inserted (signValue (getD bs 0 0)) xs s)) (chooseSigned (countUp (suc k) m) (drop 1 bs) left))
-    (sym (length-inserted (signValue (getD bs 0 0)) xs s))
-    ∙ rule-signs m (drop 1 bs) (insertedAt (signValue (getD bs 0 0)) xs s) left)
-    ∙ sym (bind-map _ (choose (suc (length xs)) rest) _))
-    ∙ sym (bind-bind (signs bits ws) _ _)
+-- the rule's insertion with signs is this one: a step with a sign at hand, the lowest bit of w, after which it is by `later`
+module _ (m : ℕ) (later : (w left : ℕ) (xs : List ℤ) (ws : List ℕ)
+    → mapRead (λ ds. insertSigned ds xs) (chooseSigned (countUp (suc (length xs)) m) (digits 2 left w) ws) ≡ insertSigns signValue m w left xs ws) where
+  rule-sign : (w left : ℕ) (xs : List ℤ) (ws : List ℕ)
+      → mapRead (λ ds. insertSigned ds xs) (bindRead (choose (suc (length xs)) ws) (λ s rest.
+      mapRead (λ ds. w % 2 ∷ s ∷ ds) (chooseSigned (countUp (suc (suc (length xs))) m) (digits 2 left (w / 2)) rest)))
+      ≡ bindRead (lowestSignAndPlace (suc (length xs)) w (suc left) ws) (λ c rest.
+      insertSigns signValue m (c .rest) (c .fewer) (insertedAt (signValue (c .bit)) xs (c .chosen)) rest)
+  unfolding lowestSignAndPlace insertSigned inserted insertedAt
+  rule-sign w left xs ws =
+      let less : suc left - 1 ≡ left = omega arith in
+      map-bind (λ (ds : List ℕ). insertSigned ds xs) (choose (suc (length xs)) ws) _
+      ∙ bind-same (choose (suc (length xs)) ws) _ _ (λ s rest.
+      map-read-twice (λ (ds : List ℕ). insertSigned ds xs) (λ (ds : List ℕ). w % 2 ∷ s ∷ ds) (chooseSigned (countUp (suc (suc (length xs))) m) (digits 2 left (w / 2)) rest)
+      ∙ ap (λ (k : ℕ). mapRead (λ (ds : List ℕ). insertSigned ds (inserted (signValue (w % 2)) xs s)) (chooseSigned (countUp (suc k) m) (digits 2 left (w / 2)) rest))
+      (sym (length-inserted (signValue (w % 2)) xs s))
+      ∙ later (w / 2) left (insertedAt (signValue (w % 2)) xs s) rest
+      ∙ ap (λ (f : ℕ). insertSigns signValue m (w / 2) f (insertedAt (signValue (w % 2)) xs s) rest) (sym less))
+      ∙ sym (bind-map _ (choose (suc (length xs)) ws) _)
 
--- numbers that are all signs
-abbrev Bits : List ℕ → Type 0
-Bits bits = (i : ℕ) → getD bits i 0 < 2
-
-digit-bits : (count w : ℕ) → Bits (digits 2 count w)
-unfolding digits
-digit-bits zero w i = omega arith
-digit-bits (suc count) w zero = mod-lt w {m = 2} (omega arith)
-digit-bits (suc count) w (suc i) = digit-bits count (w / 2) i
+pub rule-signs : (m w left : ℕ) (xs : List ℤ) (ws : List ℕ)
+    → mapRead (λ ds. insertSigned ds xs) (chooseSigned (countUp (suc (length xs)) m) (digits 2 left w) ws) ≡ insertSigns signValue m w left xs ws
+unfolding mapRead bindRead chooseSigned countUp insertSigned insertSigns signAndPlace signs digits
+rule-signs zero w left xs ws = refl
+rule-signs (suc m) w zero xs ws =
+    map-bind (λ (ds : List ℕ). insertSigned ds xs) (mapRead (digits 2 32) (word ws)) _
+    ∙ bind-map (digits 2 32) (word ws) _
+    ∙ bind-same (word ws) _ _ (λ new rest. rule-sign m (rule-signs m) new 31 xs rest)
+    ∙ sym (bind-bind (word ws) _ _)
+rule-signs (suc m) w (suc left) xs ws = rule-sign m (rule-signs m) w left xs ws
 
 -- what a changed reading gives was changed
 map-got : {A B : Type 0} (f : A → B) (r : Read A) (b : B) (rest : List ℕ) → mapRead f r ≡ got b rest → (a : A) × (b ≡ f a)
@@ -54,15 +58,16 @@ unfolding mapRead
 map-got f (got a left) b rest e = let same : got (f a) left ≡ got b rest = e in (a, cc)
 map-got f short b rest e = absurd (short-not-got e)
 
-bits-drawn : (k : ℕ) (bits ws : List ℕ) (c : Signed) (rest : List ℕ) → Bits bits → signedChoice k bits ws ≡ got c rest → (c .bit < 2) × Bits (c .bits)
-unfolding signedChoice signs bindRead mapRead word digits
-bits-drawn k [] [] c rest h e = absurd (short-not-got e)
-bits-drawn k [] (w ∷ ws) c rest h e =
-    let g = map-got _ (choose k ws) c rest e in
-    rw (g .1) (digit-bits 32 w 0, λ i. digit-bits 32 w (suc i))
-bits-drawn k (b ∷ bs) ws c rest h e =
-    let g = map-got _ (choose k ws) c rest e in
-    rw (g .1) (h 0, λ i. h (suc i))
+-- a sign is a bit
+lowest-bit : (k w left : ℕ) (ws : List ℕ) (c : SignAndPlace) (rest : List ℕ) → lowestSignAndPlace k w left ws ≡ got c rest → c .bit < 2
+unfolding lowestSignAndPlace
+lowest-bit k w left ws c rest e = rw (map-got _ (choose k ws) c rest e .1) (mod-lt w {m = 2} (omega arith))
+
+sign-bit : (k w left : ℕ) (ws : List ℕ) (c : SignAndPlace) (rest : List ℕ) → signAndPlace k w left ws ≡ got c rest → c .bit < 2
+unfolding signAndPlace bindRead word
+sign-bit k w zero [] c rest e = absurd (short-not-got e)
+sign-bit k w zero (new ∷ ws) c rest e = lowest-bit k new 32 ws c rest e
+sign-bit k w (suc left) ws c rest e = lowest-bit k w (suc left) ws c rest e
 
 bind-known : {A B : Type 0} (r : Read A) (f g : A → List ℕ → Read B) → ((a : A) (rest : List ℕ) → r ≡ got a rest → f a rest ≡ g a rest)
     → bindRead r f ≡ bindRead r g
@@ -72,19 +77,18 @@ bind-known short f g h = refl
 
 module _ {A : Type 0} (val : ℤ → A) (value : ℕ → A) (agree : (b : ℕ) → b < 2 → value b ≡ val (signValue b)) where
   -- insertion of signs does not look at the values
-  signs-held : (m : ℕ) (bits : List ℕ) (xs : List ℤ) (ws : List ℕ) → Bits bits
-      → mapRead (map val) (insertSigns signValue m bits xs ws) ≡ insertSigns value m bits (map val xs) ws
+  signs-held : (m w left : ℕ) (xs : List ℤ) (ws : List ℕ)
+      → mapRead (map val) (insertSigns signValue m w left xs ws) ≡ insertSigns value m w left (map val xs) ws
   unfolding mapRead insertSigns
-  signs-held zero bits xs ws h = refl
-  signs-held (suc m) bits xs ws h =
+  signs-held zero w left xs ws = refl
+  signs-held (suc m) w left xs ws =
       rw (length-map xs val)
-      (map-bind (map val) (signedChoice (suc (length xs)) bits ws) _
-      ∙ bind-known (signedChoice (suc (length xs)) bits ws) _ _ (λ c rest e.
-      let d = bits-drawn (suc (length xs)) bits ws c rest h e in
-      signs-held m (c .bits) (insertedAt (signValue (c .bit)) xs (c .chosen)) rest (d .1)
-      ∙ ap (λ (t : List A). insertSigns value m (c .bits) t rest)
+      (map-bind (map val) (signAndPlace (suc (length xs)) w left ws) _
+      ∙ bind-known (signAndPlace (suc (length xs)) w left ws) _ _ (λ c rest e.
+      signs-held m (c .rest) (c .fewer) (insertedAt (signValue (c .bit)) xs (c .chosen)) rest
+      ∙ ap (λ (t : List A). insertSigns value m (c .rest) (c .fewer) t rest)
       (map-inserted val (signValue (c .bit)) xs (c .chosen)
-      ∙ ap (λ (v : A). insertedAt v (map val xs) (c .chosen)) (sym (agree (c .bit) (d .0))))))
+      ∙ ap (λ (v : A). insertedAt v (map val xs) (c .chosen)) (sym (agree (c .bit) (sign-bit (suc (length xs)) w left ws c rest e))))))
 
 module _ {A : Type 0} {z : A} {write : List ℤ → List A} {val : ℤ → A} {table : List A} (h : Holds z write val table) where
   by-sign : (b : ℕ) → b < 2 → getD table b z ≡ val (signValue b)
@@ -92,15 +96,16 @@ module _ {A : Type 0} {z : A} {write : List ℤ → List A} {val : ℤ → A} {t
   by-sign (suc zero) l = h .tabled 1 (omega arith)
   by-sign (suc (suc b)) l = absurd (omega arith)
 
-  signs-insert : (count n : ℕ) (ws : List ℕ) → mapRead (map val) (readBy (signedInsertion count n) ws) ≡ insertingSigns table z count n ws
-  signs-insert count n ws =
-      let xs : List ℤ = replicate (n - count) (pos 0) in
-      ap (λ (k : ℕ). mapRead (map val) (mapRead (λ ds. insertSigned ds xs) (chooseSigned (countUp (suc k) count) [] ws)))
-      (sym (length-replicate (n - count) (pos 0)))
-      ∙ ap (mapRead (map val)) (rule-signs count [] xs ws)
-      ∙ signs-held val (λ b. getD table b z) by-sign count [] xs ws (λ i. omega arith)
-      ∙ ap (λ (ys : List A). insertSigns (λ b. getD table b z) count [] ys ws)
-      (map-replicate val (n - count) (pos 0) ∙ ap (replicate (n - count)) (sym (h .tabled 2 (omega arith))))
+  signs-insert : (weight n : ℕ) (ws : List ℕ) → mapRead (map val) (readBy (signedInsertion weight n) ws) ≡ insertingSigns table z weight n ws
+  unfolding digits
+  signs-insert weight n ws =
+      let xs : List ℤ = replicate (n - weight) (pos 0) in
+      ap (λ (k : ℕ). mapRead (map val) (mapRead (λ ds. insertSigned ds xs) (chooseSigned (countUp (suc k) weight) [] ws)))
+      (sym (length-replicate (n - weight) (pos 0)))
+      ∙ ap (mapRead (map val)) (rule-signs weight 0 0 xs ws)
+      ∙ signs-held val (λ b. getD table b z) by-sign weight 0 0 xs ws
+      ∙ ap (λ (ys : List A). insertSigns (λ b. getD table b z) weight 0 0 ys ws)
+      (map-replicate val (n - weight) (pos 0) ∙ ap (replicate (n - weight)) (sym (h .tabled 2 (omega arith))))
 
   module _ {k : ℕ} {o : Outcome A} (words : List ℕ) (place weight : ℕ) (out : List A)
       (number : k ≡ weightNumber (length words) place (length out) weight) (none : k ≡ 0) where
@@ -115,8 +120,8 @@ module _ {A : Type 0} {z : A} {write : List ℤ → List A} {val : ℤ → A} {t
         ∙ accepted write (signedInsertion weight (length out)) words place weight out number none
         ∙ rw (ne-eqb weight (length out) ne)
 
--- a sign at every place; `write′` is how the callee was told to write
-pub all-signs : {A : Type 0} {write write′ : List ℤ → List A} (told : write′ ≡ write) {o : Outcome A} (words : List ℕ) (place weight : ℕ) (out : List A)
-    → length out < 2 ^ 64 → weight ≡ length out → o ≡ ruleDraw write′ 0 (signsAlone (length out)) words place out
+-- a sign at every place
+pub all-signs : {A : Type 0} (write : List ℤ → List A) {o : Outcome A} (words : List ℕ) (place weight : ℕ) (out : List A)
+    → length out < 2 ^ 64 → weight ≡ length out → o ≡ ruleDraw write 0 (signsAlone (length out)) words place out
     → o ≡ ruleDraw write (badWeight weight (length out)) (fixedTernaryWeight weight (length out)) words place out
-all-signs told words place weight out l e q = rw (← told, not-heavy weight (length out) (omega (arith, e)) l, eq-eqb weight (length out) e) q
+all-signs write words place weight out l e q = rw (not-heavy weight (length out) (omega (arith, e)) l, eq-eqb weight (length out) e) q

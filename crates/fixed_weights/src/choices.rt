@@ -1,7 +1,9 @@
 // Signs with chosen places: a sign is read before the choice that it goes with.
 use words::Taken;
+ghost use mathlib.Core.Path.{_≡_};
 ghost use Prim.Native.Nat.{_<_};
-ghost use Rattle.fixed_weights.specs.Inserting.{Draws};
+ghost use lib.ListN.{length, drop};
+ghost use Rattle.fixed_weights.specs.Inserting.{lowestSignAndPlace, signAndPlace, signing};
 
 // A sign bit and a chosen place; then the signs left of the word read last, how many they are, and the place in the words.
 pub enum Signing {
@@ -16,9 +18,9 @@ pub enum Signing {
 }
 
 // Takes the lowest of the signs at hand and chooses a place among k.
-fn choose_signed(words: &[u32], place: usize, word: u64, left: usize, k: u64) -> Signing
+fn lowest_sign_and_place(words: &[u32], place: usize, word: u64, left: usize, k: u64) -> Signing
     requires { ⌜ 0 < left ⌝ }
-    ensures { λ r. ⌜ Draws (now (words .entry)) place word left k r ⌝ }
+    ensures { λ r. ⌜ r ≡ signing (length (now (words .entry))) (lowestSignAndPlace k word left (drop place (now (words .entry)))) ⌝ }
 {
     let bit = (word % 2) as usize;
     let rest = word / 2;
@@ -42,18 +44,18 @@ fn choose_signed(words: &[u32], place: usize, word: u64, left: usize, k: u64) ->
 }
 
 // The same, with a word of 32 signs read first where none are left.
-pub fn signed_choice(words: &[u32], place: usize, word: u64, left: usize, k: u64) -> Signing
-    ensures { λ r. ⌜ Draws (now (words .entry)) place word left k r ⌝ }
+pub fn sign_and_place(words: &[u32], place: usize, word: u64, left: usize, k: u64) -> Signing
+    ensures { λ r. ⌜ r ≡ signing (length (now (words .entry))) (signAndPlace k word left (drop place (now (words .entry)))) ⌝ }
 {
     if left == 0 {
         match words::next_u32(words, place) {
             Taken::Got {
                 value,
                 place: after,
-            } => choose_signed(words, after, value, 32, k),
+            } => lowest_sign_and_place(words, after, value, 32, k),
             Taken::Short => Signing::Short,
         }
     } else {
-        choose_signed(words, place, word, left, k)
+        lowest_sign_and_place(words, place, word, left, k)
     }
 }

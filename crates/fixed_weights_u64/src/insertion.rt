@@ -1,5 +1,8 @@
-// Values inserted at chosen places into unsigned output, as the Rust's insert_random_values has it. A plan says what fills and what is inserted;
+// Values inserted at chosen places, as the Rust's insert_random_values has it. A plan says what fills and what is inserted;
 // a table of three holds what -1, 1 and 0 are in the output.
+use crate::Out;
+use crate::clear;
+use crate::fill;
 use distr::answer::Answer;
 use fixed_weights::choices;
 use fixed_weights::choices::Signing;
@@ -10,22 +13,23 @@ ghost use mathlib.Core.Path.{_≡_};
 ghost use Prim.Native.Nat.{_≤_, _<_};
 ghost use lib.ListN.{length, getD, drop, set, replicate};
 ghost use Rattle.distr.specs.Draw.{outcome};
+ghost use Rattle.output_u64.specs.Out.{zero};
 ghost use Rattle.fixed_weights.specs.Inserting.{placed, inserting, insertingSigns};
 ghost use Rattle.fixed_weights.specs.Plans.{Ready};
 
 // Writes one value of the table over the output.
-fn fill_with(out: &mut [u64], values: &[u64; 3], code: usize)
+fn fill_with(out: &mut [Out], values: &[Out; 3], code: usize)
     requires { ⌜ code < 3 ⌝ }
-    ensures { λ r. ⌜ now (out .exit) ≡ replicate (length (now (out .entry))) (getD (now (values .entry)) code 0) ⌝ }
+    ensures { λ r. ⌜ now (out .exit) ≡ replicate (length (now (out .entry))) (getD (now (values .entry)) code zero) ⌝ }
 {
     let value = values[code];
-    fill::fill_u64(out, value);
+    fill(out, value);
 }
 
 // Copies place s to the index i and puts a value of the table at s.
-fn insert_at(out: &mut [u64], i: usize, s: usize, values: &[u64; 3], code: usize)
+fn insert_at(out: &mut [Out], i: usize, s: usize, values: &[Out; 3], code: usize)
     requires { ⌜ (i < length (now out)) × (s < length (now out)) × (code < 3) ⌝ }
-    ensures { λ r. ⌜ now (out .exit) ≡ set (set (now (out .entry)) i (getD (now (out .entry)) s 0)) s (getD (now (values .entry)) code 0) ⌝ }
+    ensures { λ r. ⌜ now (out .exit) ≡ set (set (now (out .entry)) i (getD (now (out .entry)) s zero)) s (getD (now (values .entry)) code zero) ⌝ }
 {
     out[i] = out[s];
     out[s] = values[code];
@@ -33,62 +37,65 @@ fn insert_at(out: &mut [u64], i: usize, s: usize, values: &[u64; 3], code: usize
 
 // Fills the output, then inserts by the plan at each index from the first that is left, at a place chosen among those up to it.
 pub(crate) fn insert_random_values(
-    result: &mut [u64],
-    values: &[u64; 3],
+    output: &mut [Out],
+    values: &[Out; 3],
     plan: Plan,
     words: &[u32],
     place: usize,
 ) -> Answer
-    requires { ⌜ Ready plan (length (now result)) × (place ≤ length (now words)) ⌝ }
-    ensures { λ r. ⌜ outcome r (now (result .exit)) ≡ placed 0 (length (now (words .entry))) place (length (now (result .entry))) (inserting (now (values .entry)) 0 plan (length (now (result .entry))) (drop place (now (words .entry)))) ⌝ }
+    requires { ⌜ Ready plan (length (now output)) × (place ≤ length (now words)) ⌝ }
+    ensures { λ r. ⌜ outcome r (now (output .exit)) ≡ placed zero (length (now (words .entry))) place (length (now (output .entry))) (inserting (now (values .entry)) zero plan (length (now (output .entry))) (drop place (now (words .entry)))) ⌝ }
 {
-    let n = result.len();
-    let fill = plan.fill;
+    let n = output.len();
+    let filling = plan.fill;
     let first = plan.first;
     let second = plan.second;
     let split = n - plan.seconds;
-    fill_with(result, values, fill);
+    fill_with(output, values, filling);
     let mut i = split - plan.firsts;
-    let mut at = place;
+    let mut next = place;
     while i < n {
-        match words::uniform_below(words, at, i as u64 + 1) {
-            Taken::Got { value, place: next } => {
+        match words::uniform_below(words, next, i as u64 + 1) {
+            Taken::Got {
+                value,
+                place: after,
+            } => {
                 let code = plans::code_at(i, split, first, second);
-                insert_at(result, i, value as usize, values, code);
-                at = next;
+                insert_at(output, i, value as usize, values, code);
+                next = after;
                 i += 1;
             }
             Taken::Short => {
-                fill::clear_u64(result);
+                clear(output);
                 return Answer { number: 23, place };
             }
         }
     }
     Answer {
         number: 0,
-        place: at,
+        place: next,
     }
 }
 
-// Fills the output with zeros, then inserts `count` signs, each at a place chosen among those up to its index.
+// Fills the output with zeros, then inserts `hamming_weight` signs, each at a place chosen among those up to its index.
 pub(crate) fn insert_random_signs(
-    result: &mut [u64],
-    values: &[u64; 3],
-    count: usize,
+    output: &mut [Out],
+    values: &[Out; 3],
+    hamming_weight: usize,
     words: &[u32],
     place: usize,
 ) -> Answer
-    requires { ⌜ (count ≤ length (now result)) × (place ≤ length (now words)) ⌝ }
-    ensures { λ r. ⌜ outcome r (now (result .exit)) ≡ placed 0 (length (now (words .entry))) place (length (now (result .entry))) (insertingSigns (now (values .entry)) 0 count (length (now (result .entry))) (drop place (now (words .entry)))) ⌝ }
+    requires { ⌜ («hamming_weight» ≤ length (now output)) × (place ≤ length (now words)) ⌝ }
+    ensures { λ r. ⌜ outcome r (now (output .exit)) ≡ placed zero (length (now (words .entry))) place (length (now (output .entry))) (insertingSigns (now (values .entry)) zero «hamming_weight» (length (now (output .entry))) (drop place (now (words .entry)))) ⌝ }
 {
-    let n = result.len();
-    fill_with(result, values, 2);
-    let mut i = n - count;
+    let n = output.len();
+    fill_with(output, values, 2);
+    let mut i = n - hamming_weight;
     let mut at = place;
     let mut signs: u64 = 0;
     let mut left: usize = 0;
     while i < n {
-        match choices::signed_choice(words, at, signs, left, i as u64 + 1) {
+        match choices::sign_and_place(words, at, signs, left, i as u64 + 1) {
             Signing::Got {
                 bit,
                 selected,
@@ -96,14 +103,14 @@ pub(crate) fn insert_random_signs(
                 fewer,
                 after,
             } => {
-                insert_at(result, i, selected, values, bit);
+                insert_at(output, i, selected, values, bit);
                 signs = rest;
                 left = fewer;
                 at = after;
                 i += 1;
             }
             Signing::Short => {
-                fill::clear_u64(result);
+                clear(output);
                 return Answer { number: 23, place };
             }
         }

@@ -1,4 +1,4 @@
-// The acceptance test on a layer's fringe, each f64 operation in the order of `sample` and of the preparation in `new`.
+// Inner crate of primus_distr: the acceptance test on a layer's fringe, each f64 operation in the order of `sample` and of the preparation in `new`.
 ghost use mathlib.Core.Path.{_≡_};
 ghost use Rattle.distr.specs.Layered.{float};
 ghost use Rattle.fringe.specs.Fringe.{slopeOf, lineOf, acceptsOn};

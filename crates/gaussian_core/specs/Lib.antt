@@ -1,2 +1,2 @@
--- What making a Gaussian hands back, and what a signed integer holds of a magnitude.
+-- What making a Gaussian hands back.
 pub mod Made

@@ -1,10 +1,9 @@
--- The record of a Gaussian as a function hands it back, with the number of a refusal; and a magnitude as a 64-bit signed integer.
-use Prim.Native.Nat.{ℕ, _^_}
-use mathlib.Core.Bool.{Bool, cond}
-use lib.Dec.{ltb, eqb}
-use lib.IntN.{ℤ, pos}
+-- The record of a Gaussian as a function hands it back, with the number of a refusal.
+use Prim.Native.Nat.{ℕ}
+use mathlib.Core.Bool.{cond}
+use lib.Dec.{eqb}
 use lib.Ieee.{Float}
-use Rattle.distr.specs.Gaussian.{literal, support, signed}
+use Rattle.distr.specs.Gaussian.{literal, support}
 use Rattle.distr.specs.Making.{gaussianNumber}
 use Rattle.gaussian_core.specs.declared.parameters.MadeParameters.{MadeParameters}
 
@@ -18,7 +17,3 @@ madeParameters deviation =
     cond (eqb (gaussianNumber deviation) 0)
     (record { number = 0; parameters = record { «standard_deviation» = deviation; «maximum_magnitude» = support deviation } })
     (refused (gaussianNumber deviation))
-
--- A magnitude with its sign where an i64 holds both signs of it, else 0.
-abbrev pub signedOrZero : Bool → ℕ → ℤ
-signedOrZero positive m = cond (ltb m (2 ^ 63)) (signed positive m) (pos 0)

@@ -1,4 +1,4 @@
-// The lent tables of the layered Gaussian, judged before a draw (number 13). The loops have no way out but their end.
+// Inner crate of primus_distr: the lent tables of the layered Gaussian, judged before a draw (number 13). The loops have no way out but their end.
 use rising::rising_ok;
 ghost use mathlib.Core.Bool.{not};
 ghost use mathlib.Core.Path.{_≡_};

@@ -1,4 +1,5 @@
-// A prepared method as a record of numbers, for every sampler, so that two methods are compared number by number.
+// Inner crate of primus_distr: a prepared method as a record of numbers, for both samplers, so that two methods are compared number by
+// number.
 ghost use mathlib.Core.Path.{_≡_};
 ghost use Rattle.method_fields.specs.Fields.{plainFields, sameFields};
 

@@ -1,4 +1,4 @@
-// The numbers that refuse a draw by its place and its length, before it looks at a word.
+// Inner crate of primus_distr: the numbers that refuse a draw by its place and its length, before it looks at a word.
 ghost use mathlib.Core.Path.{_≡_};
 ghost use mathlib.Core.List.{[], _∷_};
 ghost use Prim.Native.Nat.{_+_};

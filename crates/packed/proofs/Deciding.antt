@@ -2,16 +2,15 @@
 use mathlib.Core.Path.{_≡_, refl, sym, ap, ap₂, _∙_}
 use mathlib.Core.List.{List, [], _∷_, _++_, map}
 use Prim.Native.Nat.{ℕ, zero, suc, _+_, _-_, _*_, _/_, _%_, _<_, _≤_}
-use native.Mathlib.Nat.{mod-lt, sub-zero}
+use native.Mathlib.Nat.{mod-lt}
 use native.Mathlib.Omega.{arith}
 use borrow.Author.Tests.{le-leb, lt-leb}
 use lib.ListN.{length, take, drop, replicate, length-drop}
-use lib.IntN.{ℤ, pos, +ℤ-idr}
+use lib.IntN.{ℤ, pos}
 use Rattle.distr.specs.Words.{Read, got, short, mapRead}
 use Rattle.distr.specs.Rule.{Rule, readBy}
-use Rattle.distr.specs.Packed.{digits, split, packed, minusOne}
+use Rattle.distr.specs.Packed.{digits, split, packed}
 use Rattle.distr.specs.UniformTernary.{bytes, uniformTernary, tritValue}
-use Rattle.distr.specs.Encoding.{encodeWith, signedWith}
 use Rattle.distr.specs.Draw.{ruleDraw}
 use Rattle.distr.proofs.Reading.{many-word}
 use Rattle.distr.proofs.Writing.{map-append, map-map, map-replicate, map-take}
@@ -149,10 +148,3 @@ below-three P p₀ p₁ p₂ (suc d) h = below-two (λ k. P (suc k)) p₁ p₂ d
 pub below-four : (P : ℕ → Type 0) → P 0 → P 1 → P 2 → P 3 → (d : ℕ) → d < 4 → P d
 below-four P p₀ p₁ p₂ p₃ zero h = p₀
 below-four P p₀ p₁ p₂ p₃ (suc d) h = below-three (λ k. P (suc k)) p₁ p₂ p₃ d (omega arith)
-
--- −1 is held as the caller holds it.
-pub signed-minus : (minus : ℤ) → minus ≡ signedWith minus minusOne
-signed-minus minus = sym (+ℤ-idr minus)
-
-pub encoded-minus : (minus : ℕ) → minus ≡ encodeWith minus minusOne
-encoded-minus minus = sym (sub-zero minus)

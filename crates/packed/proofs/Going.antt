@@ -10,7 +10,7 @@ use lib.ListN.{length, getD, take, drop, length-map, drop-of-length-le}
 use lib.Seq.{paste, take-paste, take-nil, take-append-add, take-append-le, take-all, drop-cons, length-paste}
 use Rattle.distr.specs.Words.{Read, got, short, mapRead}
 use Rattle.distr.specs.Packed.{digits, split}
-use Rattle.distr.specs.UniformTernary.{accepted, bytes}
+use Rattle.distr.specs.UniformTernary.{acceptedBytes, bytes}
 use Rattle.distr.proofs.Writing.{map-append, map-take}
 use Rattle.packed.specs.Pairs.{single, Paired}
 use Rattle.packed.proofs.Storing.{length-digits}
@@ -33,11 +33,11 @@ read-id short = refl
 
 -- m accepted bytes, first from those left of a word and then from the words after it
 abbrev bytesFrom : List ℕ → List ℕ → ℕ → Read (List ℕ)
-bytesFrom left ws m = mapRead (λ rest. take m (accepted left) ++ rest) (bytes ws (m - length (accepted left)))
+bytesFrom left ws m = mapRead (λ rest. take m (acceptedBytes left) ++ rest) (bytes ws (m - length (acceptedBytes left)))
 
 -- no byte is left: the words alone
 from-words : (ws : List ℕ) (m : ℕ) → bytesFrom [] ws m ≡ bytes ws m
-unfolding accepted
+unfolding acceptedBytes
 from-words ws m =
     ap₂ (λ (front : List ℕ) (k : ℕ). mapRead (λ rest. front ++ rest) (bytes ws k)) (take-nil m) (sub-zero m)
     ∙ read-id (bytes ws m)
@@ -55,7 +55,7 @@ from-none m = from-words [] (suc m)
 -- enough bytes: the words stay as they are
 from-enough : (left ws : List ℕ) → bytesFrom left ws 0 ≡ got [] ws
 unfolding bytes
-from-enough left ws = ap (λ (k : ℕ). mapRead (λ rest. rest) (bytes ws k)) (zero-sub (length (accepted left))) ∙ read-id (bytes ws 0) ∙ none ws
+from-enough left ws = ap (λ (k : ℕ). mapRead (λ rest. rest) (bytes ws k)) (zero-sub (length (acceptedBytes left))) ∙ read-id (bytes ws 0) ∙ none ws
   where
     none : (vs : List ℕ) → bytes vs 0 ≡ got [] vs
     none [] = refl
@@ -63,15 +63,15 @@ from-enough left ws = ap (λ (k : ℕ). mapRead (λ rest. rest) (bytes ws k)) (z
 
 -- a byte of 243 or more is skipped, another is the next
 from-skip : (b : ℕ) (left ws : List ℕ) (m : ℕ) → 243 ≤ b → bytesFrom (b ∷ left) ws m ≡ bytesFrom left ws m
-unfolding accepted
+unfolding acceptedBytes
 from-skip b left ws m h = rw (le-ltb b 243 h)
 
 from-byte : (b : ℕ) (left ws : List ℕ) (m : ℕ) → b < 243 → bytesFrom (b ∷ left) ws (suc m) ≡ mapRead (λ ds. b ∷ ds) (bytesFrom left ws m)
-unfolding accepted
+unfolding acceptedBytes
 from-byte b left ws m h =
     rw (lt-ltb b 243 h)
-    (ap (λ (k : ℕ). mapRead (λ rest. (b ∷ take m (accepted left)) ++ rest) (bytes ws k)) (suc-sub-suc m (length (accepted left)))
-    ∙ sym (map-read (λ ds. b ∷ ds) (λ rest. take m (accepted left) ++ rest) (bytes ws (m - length (accepted left)))))
+    (ap (λ (k : ℕ). mapRead (λ rest. (b ∷ take m (acceptedBytes left)) ++ rest) (bytes ws k)) (suc-sub-suc m (length (acceptedBytes left)))
+    ∙ sym (map-read (λ ds. b ∷ ds) (λ rest. take m (acceptedBytes left) ++ rest) (bytes ws (m - length (acceptedBytes left)))))
 
 digits-none : {left : ℕ} (x : ℕ) → left ≡ 0 → digits 256 left x ≡ []
 unfolding digits

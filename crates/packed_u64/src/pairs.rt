@@ -1,18 +1,19 @@
-// Tables of pairs for unsigned output: what two digits stand for, side by side, for each two digits of a base. The low digit runs
+// Tables of pairs: what two digits stand for, side by side, for each two digits of a base. The low digit runs
 // first; what it stands for comes first.
+use crate::Out;
 ghost use mathlib.Core.Path.{_≡_};
 ghost use mathlib.Core.List.{[], _∷_};
 ghost use Rattle.packed.specs.Pairs.{pairsOf};
 
 // Pairs of bits.
-pub(crate) fn bits(a: u64, b: u64) -> [u64; 8]
+pub(crate) fn bits(a: Out, b: Out) -> [Out; 8]
     ensures { λ r. ⌜ r ≡ pairsOf (a ∷ b ∷ []) ⌝ }
 {
     [a, a, b, a, a, b, b, b]
 }
 
 // Pairs of two-bit groups.
-pub(crate) fn groups(a: u64, b: u64, c: u64, d: u64) -> [u64; 32]
+pub(crate) fn groups(a: Out, b: Out, c: Out, d: Out) -> [Out; 32]
     ensures { λ r. ⌜ r ≡ pairsOf (a ∷ b ∷ c ∷ d ∷ []) ⌝ }
 {
     [
@@ -52,7 +53,7 @@ pub(crate) fn groups(a: u64, b: u64, c: u64, d: u64) -> [u64; 32]
 }
 
 // Pairs of trits.
-pub(crate) fn trits(a: u64, b: u64, c: u64) -> [u64; 18]
+pub(crate) fn trits(a: Out, b: Out, c: Out) -> [Out; 18]
     ensures { λ r. ⌜ r ≡ pairsOf (a ∷ b ∷ c ∷ []) ⌝ }
 {
     [a, a, b, a, c, a, a, b, b, b, c, b, a, c, b, c, c, c]

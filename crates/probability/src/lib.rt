@@ -1,4 +1,4 @@
-// Probabilities as f64: which ones a distribution takes, and the threshold of one among the 64-bit words.
+// Inner crate of primus_distr: probabilities as f64, which ones a distribution takes, and the threshold of one among the 64-bit words.
 use distr::threshold::Threshold;
 ghost use mathlib.Core.Path.{_≡_};
 ghost use lib.Ieee.Scale.{finite};

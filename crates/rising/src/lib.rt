@@ -1,4 +1,4 @@
-// The test of a lent table of numbers that never falls: a Gaussian's cumulative bounds and the endpoints of its layers.
+// Inner crate of primus_distr: the test of a lent table of numbers that never falls, a Gaussian's cumulative bounds or the endpoints of its layers.
 ghost use mathlib.Core.Path.{_≡_};
 ghost use Rattle.distr.specs.Gaussian.{rising};
 

@@ -1,32 +1,28 @@
 // The calls that the lines ask for, and whether their answers agree.
+use crate::compare::agrees;
+use crate::compare::same;
+use crate::line::distr_of;
+use crate::line::moduli_of;
+use crate::line::words_of;
+use crate::numbers::ANSWER;
+use crate::numbers::BOUNDS;
+use crate::numbers::CURVE;
+use crate::numbers::ENDPOINTS;
+use crate::numbers::HEIGHTS;
+use crate::numbers::entries;
+use crate::numbers::kept;
+use crate::numbers::part;
+use crate::numbers::rest;
+use crate::numbers::size_at;
+use crate::numbers::value_at;
+use crate::real::fill_reals;
+use crate::real::reals_part;
 use crate::room::coefficients_room;
 use crate::room::reals_room;
 use crate::room::residues_room;
 use crate::room::words_room;
-use answer_file::line::Distr;
-use answer_file::line::agrees;
-use answer_file::line::answer_of;
-use answer_file::line::distr_of;
-use answer_file::line::entries_of;
-use answer_file::line::given_of;
-use answer_file::line::moduli_of;
-use answer_file::line::words_of;
-use answer_file::number::kept;
-use answer_file::number::reals_part;
-use answer_file::number::size_at;
-use answer_file::number::value_at;
-use answer_file::output::put_residues;
-use answer_file::real::fill_reals;
-use answer_file::words::fill_words;
-
-// Where the tables are kept.
-pub(crate) const BOUNDS: usize = 0;
-
-pub(crate) const ENDPOINTS: usize = 10000;
-
-pub(crate) const HEIGHTS: usize = 20000;
-
-pub(crate) const CURVE: usize = 30000;
+use crate::words::fill_words;
+use gaussian_core::encode::magnitude;
 
 // The most words and elements of an output that a line may ask for.
 const WORDS: usize = 262144;
@@ -34,38 +30,58 @@ const WORDS: usize = 262144;
 const LENGTH: usize = 131072;
 
 // A line `1` DISTR number.
-pub(crate) fn making(values: &[u64]) -> bool {
+fn making(values: &[u64]) -> bool {
     let distr = distr_of(values);
-    let number = beside::beside_make(distr.kind, distr.a, distr.b, distr.p, distr.q);
-    number as u64 == value_at(values, 8)
+    let numbers = [beside::beside_make(distr.kind, distr.a, distr.b, distr.p, distr.q) as u64];
+    same(rest(values, 8), &numbers)
 }
 
-// The number of a draw of signed coefficients, which are put into the output.
+// A signed coefficient modulo 2^64; 0 past the end.
+fn residue_at(coefficients: &[i64], i: usize) -> u64 {
+    if coefficients.len() <= i {
+        return 0;
+    }
+    let x = coefficients[i];
+    if x < 0 {
+        return std::num::wrapping_sub_u64(0, magnitude(x));
+    }
+    magnitude(x)
+}
+
+// Puts signed coefficients modulo 2^64 into an output.
+fn put_residues(coefficients: &[i64], output: &mut [u64]) {
+    let mut i = 0;
+    while i < output.len() {
+        output[i] = residue_at(coefficients, i);
+        i += 1;
+    }
+}
+
+// The number of a draw of signed coefficients, which are put into the output. One that is too long for the room is refused by 6.
 fn signed(
-    distr: Distr,
-    place: usize,
-    bounds: &[u64],
-    endpoints: &[u64],
+    room: &[u64],
     heights: &[f64],
     curve: &[f64],
     words: &[u32],
+    place: usize,
     output: &mut [u64],
     new_place: &mut usize,
 ) -> u32 {
     let n = output.len();
     if LENGTH < n {
-        return 0;
+        return 6;
     }
-    let mut room = coefficients_room();
-    let coefficients = &mut room[0..n];
+    let distr = distr_of(kept(room, ANSWER));
+    let mut all = coefficients_room();
+    let coefficients = &mut all[0..n];
     let number = beside::beside_signed(
         distr.kind,
         distr.a,
         distr.b,
         distr.p,
         distr.q,
-        bounds,
-        endpoints,
+        entries(room, BOUNDS),
+        entries(room, ENDPOINTS),
         heights,
         curve,
         words,
@@ -78,27 +94,28 @@ fn signed(
 }
 
 // The number of a draw of residues: of one modulus, which stands at index 9, or of several, with the coefficients at 9.
-fn encoded(
-    values: &[u64],
-    place: usize,
-    bounds: &[u64],
-    endpoints: &[u64],
+fn residues(
+    room: &[u64],
     heights: &[f64],
     curve: &[f64],
     words: &[u32],
+    place: usize,
     output: &mut [u64],
     new_place: &mut usize,
 ) -> u32 {
+    let values = kept(room, ANSWER);
     let distr = distr_of(values);
+    let bounds = entries(room, BOUNDS);
+    let endpoints = entries(room, ENDPOINTS);
+    let at_9 = value_at(values, 9);
     if value_at(values, 0) == 3 {
-        let modulus = value_at(values, 9);
         return beside::beside_encoded(
             distr.kind,
             distr.a,
             distr.b,
             distr.p,
             distr.q,
-            modulus,
+            at_9,
             bounds,
             endpoints,
             heights,
@@ -109,16 +126,14 @@ fn encoded(
             new_place,
         );
     }
-    let count = size_at(values, 9);
-    let moduli = moduli_of(values);
     beside::beside_crt(
         distr.kind,
         distr.a,
         distr.b,
         distr.p,
         distr.q,
-        count,
-        moduli,
+        at_9 as usize,
+        moduli_of(values),
         bounds,
         endpoints,
         heights,
@@ -130,95 +145,86 @@ fn encoded(
     )
 }
 
-// The number of a draw: of signed coefficients, or of residues.
+// Fills a room with the reals of a table that is kept. Hands back how many there are.
+fn reals_of(room: &[u64], begin: usize, reals: &mut [f64; 5000]) -> usize {
+    let values = kept(room, begin);
+    fill_reals(values, reals);
+    size_at(values, 1)
+}
+
+// The number of a draw by the tables that are kept.
 fn number_of(
-    values: &[u64],
-    place: usize,
-    bounds: &[u64],
-    endpoints: &[u64],
-    heights: &[f64],
-    curve: &[f64],
-    words: &[u32],
-    output: &mut [u64],
-    new_place: &mut usize,
-) -> u32 {
-    if value_at(values, 0) == 2 {
-        return signed(
-            distr_of(values),
-            place,
-            bounds,
-            endpoints,
-            heights,
-            curve,
-            words,
-            output,
-            new_place,
-        );
-    }
-    encoded(
-        values,
-        place,
-        bounds,
-        endpoints,
-        heights,
-        curve,
-        words,
-        output,
-        new_place,
-    )
-}
-
-// The number of a draw that is lent the tables that are kept.
-fn number_by_tables(
     room: &[u64],
-    values: &[u64],
-    place: usize,
     words: &[u32],
+    place: usize,
     output: &mut [u64],
     new_place: &mut usize,
 ) -> u32 {
-    let heights = kept(room, HEIGHTS);
-    let curve = kept(room, CURVE);
-    let mut heights_room = reals_room();
-    let mut curve_room = reals_room();
-    fill_reals(heights, &mut heights_room);
-    fill_reals(curve, &mut curve_room);
-    number_of(
-        values,
-        place,
-        entries_of(kept(room, BOUNDS)),
-        entries_of(kept(room, ENDPOINTS)),
-        reals_part(&heights_room, 0, size_at(heights, 1)),
-        reals_part(&curve_room, 0, size_at(curve, 1)),
-        words,
-        output,
-        new_place,
-    )
+    let mut all_heights = reals_room();
+    let mut all_curve = reals_room();
+    let heights_count = reals_of(room, HEIGHTS, &mut all_heights);
+    let curve_count = reals_of(room, CURVE, &mut all_curve);
+    let heights = reals_part(&all_heights, heights_count);
+    let curve = reals_part(&all_curve, curve_count);
+    if value_at(room, ANSWER) == 2 {
+        return signed(room, heights, curve, words, place, output, new_place);
+    }
+    residues(room, heights, curve, words, place, output, new_place)
 }
 
-// A draw by words: n, or the length of all rows, stands at index 8.
-fn drawn(room: &[u64], values: &[u64], answer: &[u64], words: &[u32]) -> bool {
+// What a digest adds to each element: to a signed coefficient 4,096.
+fn offset_of(tag: u64) -> u64 {
+    if tag == 2 { 4096 } else { 0 }
+}
+
+// A draw by words. The length of the output stands at index 8; the place and then the answer follow the words.
+fn drawn(room: &[u64], words: &[u32], place: usize, stored: &[u64]) -> bool {
+    let values = kept(room, ANSWER);
     let n = size_at(values, 8);
     if LENGTH < n {
         return false;
     }
     let mut residues = residues_room();
     let output = &mut residues[0..n];
-    let mut place = 0;
-    let number = number_by_tables(room, values, size_at(answer, 0), words, output, &mut place);
-    agrees(value_at(values, 0), answer, number, place, output)
+    let mut new_place = 0;
+    let number = number_of(room, words, place, output, &mut new_place);
+    agrees(
+        offset_of(value_at(values, 0)),
+        stored,
+        number,
+        new_place,
+        output,
+    )
 }
 
-// A line of a draw: `2` DISTR n, `3` DISTR n modulus, or `4` DISTR length coefficients moduli-count modulus.., and then
-// WORDS place ANSWER.
-pub(crate) fn draw(room: &[u64], values: &[u64]) -> bool {
-    let rest = words_of(values);
-    let count = size_at(rest, 0);
+// A line of a draw.
+fn draw(room: &[u64]) -> bool {
+    let values = kept(room, ANSWER);
+    let described = words_of(values);
+    let count = size_at(described, 0);
+    let given = size_at(described, 2);
     if WORDS < count {
+        return false;
+    }
+    if count < given {
         return false;
     }
     let mut all = words_room();
     let words = &mut all[0..count];
-    fill_words(words, given_of(rest), value_at(rest, 1));
-    drawn(room, values, answer_of(rest), words)
+    let answer = rest(described, 3 + given);
+    let good = fill_words(words, part(described, 3, 3 + given), value_at(described, 1));
+    good & drawn(room, words, size_at(answer, 0), rest(answer, 1))
+}
+
+// Whether the line of an answer that is kept is well formed and agrees.
+pub(crate) fn is_answered(room: &[u64]) -> bool {
+    let values = kept(room, ANSWER);
+    if !distr_of(values).good {
+        return false;
+    }
+    match value_at(values, 0) {
+        1 => making(values),
+        2..=4 => draw(room),
+        _ => false,
+    }
 }

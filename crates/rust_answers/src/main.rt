@@ -1,10 +1,18 @@
 // Asks the calls of `beside` for what the Rust answered, in the files that its arguments name. For each file it prints a line with the
 // number of answers and of those that agree, and before it one for each line of the file that does not; at the end the totals.
+// Then it does the same with altered.txt, a few of the stored lines with a number, a place or a coefficient changed or not well formed:
+// a comparison that always agrees would show there.
+mod compare;
 mod draws;
 mod file;
+mod line;
+mod numbers;
 mod print;
+mod reading;
+mod real;
 mod room;
 mod tally;
+mod words;
 
 use room::text_room;
 use tally::Tally;
@@ -25,13 +33,18 @@ fn judge_file(name: &[u8]) -> Tally {
     file::judge_text(&bytes[0..size])
 }
 
-// Judges the file that an argument names, and prints its totals.
+// Judges a file, and prints its totals.
+fn judge(name: &[u8]) -> Tally {
+    let tally = judge_file(name);
+    print::summary(name, tally);
+    tally
+}
+
+// Judges the file that an argument names.
 fn judge_argument(i: usize) -> Tally {
     let mut path = io::buffer();
     let end = os::arg(i, &mut path);
-    let tally = judge_file(&path[..end]);
-    print::summary(&path[..end], tally);
-    tally
+    judge(&path[..end])
 }
 
 fn main() {
@@ -43,4 +56,5 @@ fn main() {
         i += 1;
     }
     print::summary(b"total", total);
+    judge(b"altered.txt");
 }

@@ -1,4 +1,4 @@
-// Room for what is read and drawn. Each `ensures` gives the length, which lending the array needs.
+// Arrays for what is read and drawn. Where a part of an array is lent, an `ensures` gives its length.
 ghost use mathlib.Core.Path.{_≡_};
 ghost use lib.ListN.{length};
 
@@ -17,9 +17,7 @@ pub(crate) fn numbers_room() -> [u64; 50000]
 }
 
 // For a table of reals.
-pub(crate) fn reals_room() -> [f64; 5000]
-    ensures { λ r. ⌜ 5000 ≡ length r ⌝ }
-{
+pub(crate) fn reals_room() -> [f64; 5000] {
     [0.0; 5000]
 }
 
@@ -30,14 +28,14 @@ pub(crate) fn words_room() -> [u32; 262144]
     [0; 262144]
 }
 
-// For signed coefficients, none of which a draw is to leave as it is.
+// For signed coefficients. They start at 9, so that one which a draw does not write is noticed.
 pub(crate) fn coefficients_room() -> [i64; 131072]
     ensures { λ r. ⌜ 131072 ≡ length r ⌝ }
 {
     [9; 131072]
 }
 
-// For residues.
+// For an output modulo 2^64, or of residues; it starts at 9 for the same reason.
 pub(crate) fn residues_room() -> [u64; 131072]
     ensures { λ r. ⌜ 131072 ≡ length r ⌝ }
 {

@@ -1,14 +1,14 @@
-// Counting.
+// Counting lines, answers, and answers that agree.
 use crate::print::tell;
 
-// The lines of a file, its answers, and those that agree.
+// The number of lines, of answers among them, and of answers that agree.
 pub(crate) struct Tally {
     pub lines: u64,
     pub answers: u64,
     pub agree: u64,
 }
 
-// Of no line.
+// The counts before the first line.
 pub(crate) fn empty() -> Tally {
     Tally {
         lines: 0,
@@ -17,7 +17,7 @@ pub(crate) fn empty() -> Tally {
     }
 }
 
-// Of a file that cannot be read.
+// The counts of a file that cannot be read: one answer, which does not agree.
 pub(crate) fn unread() -> Tally {
     Tally {
         lines: 0,
@@ -26,7 +26,7 @@ pub(crate) fn unread() -> Tally {
     }
 }
 
-// Of two files.
+// The counts of two files together.
 pub(crate) fn joined(one: Tally, other: Tally) -> Tally {
     Tally {
         lines: std::num::wrapping_add_u64(one.lines, other.lines),
@@ -35,7 +35,7 @@ pub(crate) fn joined(one: Tally, other: Tally) -> Tally {
     }
 }
 
-// With an answer more. One that does not agree is told.
+// The counts after one answer more. An answer that does not agree is printed with its line number.
 pub(crate) fn with_answer(tally: Tally, agrees: bool) -> Tally {
     let one = Tally {
         lines: 1,
@@ -49,7 +49,7 @@ pub(crate) fn with_answer(tally: Tally, agrees: bool) -> Tally {
     next
 }
 
-// With a table more. A line that is none is an answer that does not agree.
+// The counts after the line of a table. A line that is no table after all counts as an answer that does not agree.
 pub(crate) fn with_table(tally: Tally, is_table: bool) -> Tally {
     if !is_table {
         return with_answer(tally, false);

@@ -1,51 +1,38 @@
--- What each prepared method draws, by the rule of its family. The two dispatches promise it, one for each type of the output.
+-- What each prepared method draws, by the rule of its family. The branch by method promises it, for each type of the output.
 use Prim.Native.Nat.{ℕ, _+_}
-use mathlib.Core.List.{List, map}
+use mathlib.Core.List.{List}
 use lib.ListN.{length}
-use lib.IntN.{ℤ, natAbs}
+use lib.IntN.{ℤ}
 use Rattle.distr.specs.Packed.{uniformBinary, sparseTernary}
 use Rattle.distr.specs.UniformTernary.{uniformTernary}
 use Rattle.distr.specs.Thresholds.{binary}
 use Rattle.distr.specs.Insertion.{fixedComposition, fixedBinaryWeight, fixedTernaryWeight}
 use Rattle.distr.specs.Blocks.{blockBinary}
 use Rattle.distr.specs.Distribution.{Tables, gaussianRead}
-use Rattle.distr.specs.Encoding.{signedWith, encodeWith}
 use Rattle.distr.specs.Numbers.{badWeight, badBlocks, gaussianTable}
 use Rattle.distr.specs.Draw.{Outcome, readDraw, ruleDraw}
 use Rattle.words.specs.Reading.{thresholdValue}
 use Rattle.ternary.specs.Sampler.{samplerRule}
-use Rattle.secret_key_method.specs.declared.SamplingMethod.{SamplingMethod}
-use Rattle.secret_key_method.specs.declared.SamplingMethod.the-variants.{UniformBinary, Binary, SparseTernary, UniformTernary, Ternary, Empty}
-use Rattle.secret_key_method.specs.declared.SamplingMethod.the-variants.{FixedHammingWeightBinary, BlockBinary, FixedHammingWeightTernary, FixedCompositionTernary, Gaussian}
+use Rattle.secret_key_method.specs.declared.SecretKeyMethod.{SecretKeyMethod}
+use Rattle.secret_key_method.specs.declared.SecretKeyMethod.the-variants.{UniformBinary, Binary, SparseTernary, UniformTernary, Ternary, Empty}
+use Rattle.secret_key_method.specs.declared.SecretKeyMethod.the-variants.{FixedHammingWeightBinary, BlockBinary, FixedHammingWeightTernary, FixedCompositionTernary, Gaussian}
 
--- How coefficients are written: where only 0 and 1 come, where −1 comes too, and a Gaussian's.
-pub record Writes (A : Type 0) : Type 0 where
-  pub bits : List ℤ → List A
-  pub trits : List ℤ → List A
-  pub gaussian : List ℤ → List A
-
--- By the caller's encoding of −1: signed numbers, and residues.
-abbrev pub signedWrites : ℤ → Writes ℤ
-signedWrites minus = record { bits = λ cs. cs; trits = map (signedWith minus); gaussian = λ cs. cs }
-
-abbrev pub residueWrites : ℕ → Writes ℕ
-residueWrites minus = record { bits = map natAbs; trits = map (encodeWith minus); gaussian = map (encodeWith minus) }
-
-unfoldable pub methodDraw : {A : Type 0} → Writes A → SamplingMethod → Tables → List ℕ → ℕ → List A → Outcome A
-methodDraw write UniformBinary tables words place out = ruleDraw (write .bits) 0 (uniformBinary (length out)) words place out
-methodDraw write (Binary t) tables words place out = ruleDraw (write .bits) 0 (binary (thresholdValue t) (length out)) words place out
-methodDraw write SparseTernary tables words place out = ruleDraw (write .trits) 0 (sparseTernary (length out)) words place out
-methodDraw write UniformTernary tables words place out = ruleDraw (write .trits) 0 (uniformTernary (length out)) words place out
-methodDraw write (Ternary s) tables words place out = ruleDraw (write .trits) 0 (samplerRule s (length out)) words place out
+-- `write` says how coefficients are held in the output.
+unfoldable pub methodDraw : {A : Type 0} → (List ℤ → List A) → SecretKeyMethod → Tables → List ℕ → ℕ → List A → Outcome A
+methodDraw write UniformBinary tables words place out = ruleDraw write 0 (uniformBinary (length out)) words place out
+methodDraw write (Binary t) tables words place out = ruleDraw write 0 (binary (thresholdValue t) (length out)) words place out
+methodDraw write SparseTernary tables words place out = ruleDraw write 0 (sparseTernary (length out)) words place out
+methodDraw write UniformTernary tables words place out = ruleDraw write 0 (uniformTernary (length out)) words place out
+methodDraw write (Ternary s) tables words place out = ruleDraw write 0 (samplerRule s (length out)) words place out
 methodDraw write (FixedHammingWeightBinary h) tables words place out =
-    ruleDraw (write .bits) (badWeight h (length out)) (fixedBinaryWeight h (length out)) words place out
+    ruleDraw write (badWeight h (length out)) (fixedBinaryWeight h (length out)) words place out
 methodDraw write (BlockBinary size occupancy) tables words place out =
-    ruleDraw (write .bits) (badBlocks size (length out)) (blockBinary size occupancy (length out)) words place out
+    ruleDraw write (badBlocks size (length out)) (blockBinary size occupancy (length out)) words place out
 methodDraw write (FixedHammingWeightTernary h) tables words place out =
-    ruleDraw (write .trits) (badWeight h (length out)) (fixedTernaryWeight h (length out)) words place out
+    ruleDraw write (badWeight h (length out)) (fixedTernaryWeight h (length out)) words place out
 methodDraw write (FixedCompositionTernary minus ones) tables words place out =
-    ruleDraw (write .trits) (badWeight (minus + ones) (length out)) (fixedComposition minus ones (length out)) words place out
+    ruleDraw write (badWeight (minus + ones) (length out)) (fixedComposition minus ones (length out)) words place out
 methodDraw write (Gaussian parameters) tables words place out =
-    readDraw (write .gaussian) (gaussianTable (parameters .«maximum_magnitude») tables)
+    readDraw write (gaussianTable (parameters .«maximum_magnitude») tables)
     (λ ws. gaussianRead (parameters .«standard_deviation») (parameters .«maximum_magnitude») tables (length out) ws) words place out
 methodDraw write Empty tables words place out = record { number = 21; place = place; output = out }

@@ -1,3 +1,2 @@
-// What a prepared method draws: the branch by method, once for each type of the output, before any loop over coefficients.
-pub mod encoded;
-pub mod signed;
+// Inner crate of primus_distr: what a prepared method of a key draws, for any output. There is no code here; specs/ says it, and proofs/ has
+// the law that it is what the distribution draws.

@@ -10,18 +10,18 @@ use Rattle.distr.specs.declared.secret_key_distr.BlockOccupancy.the-variants.{A
 use Rattle.distr.specs.Thresholds.{threshold}
 use Rattle.distr.proofs.secret_key_distr.SecretKeyDistr.{the-field as distr-field, the-type as distr-type}
 use Rattle.ternary.specs.declared.ternary.TernaryValue.the-variants.{MinusOne, Zero, One}
-use Rattle.ternary.specs.declared.ternary.TernarySampler.{TernarySampler}
-use Rattle.ternary.specs.declared.ternary.TernarySampler.the-variants.{Constant, Nonzero, General}
+use Rattle.ternary.specs.declared.ternary.TernaryEnds.{TernaryEnds}
+use Rattle.ternary.specs.declared.ternary.TernaryEnds.the-variants.{Constant, Nonzero, General}
 use Rattle.ternary.specs.Sampler.{samplerOf}
 use Rattle.method_fields.proofs.Deviation.{zero-fits}
-use Rattle.secret_key_method.specs.declared.SamplingMethod.{SamplingMethod}
-use Rattle.secret_key_method.specs.declared.SamplingMethod.the-variants.{UniformBinary, Binary, SparseTernary, UniformTernary, Ternary, Empty}
-use Rattle.secret_key_method.specs.declared.SamplingMethod.the-variants.{FixedHammingWeightBinary, BlockBinary, Gaussian}
-use Rattle.secret_key_method.specs.declared.SamplingMethod.the-variants.{FixedHammingWeightTernary, FixedCompositionTernary}
+use Rattle.secret_key_method.specs.declared.SecretKeyMethod.{SecretKeyMethod}
+use Rattle.secret_key_method.specs.declared.SecretKeyMethod.the-variants.{UniformBinary, Binary, SparseTernary, UniformTernary, Ternary, Empty}
+use Rattle.secret_key_method.specs.declared.SecretKeyMethod.the-variants.{FixedHammingWeightBinary, BlockBinary, Gaussian}
+use Rattle.secret_key_method.specs.declared.SecretKeyMethod.the-variants.{FixedHammingWeightTernary, FixedCompositionTernary}
 use Rattle.secret_key_method.specs.Method.{prepared, ternaryFields, methodFields}
-use Rattle.secret_key_method.proofs.SamplingMethod.{the-field as method-field, the-type as method-type}
+use Rattle.secret_key_method.proofs.SecretKeyMethod.{the-field as method-field, the-type as method-type}
 
-ternary-fits : (s : TernarySampler) → T (fits binary64 (ternaryFields s .deviation))
+ternary-fits : (s : TernaryEnds) → T (fits binary64 (ternaryFields s .deviation))
 ternary-fits (Constant MinusOne) = zero-fits
 ternary-fits (Constant Zero) = zero-fits
 ternary-fits (Constant One) = zero-fits
@@ -29,7 +29,7 @@ ternary-fits (Nonzero N) = zero-fits
 ternary-fits (General N E) = zero-fits
 
 -- The deviation of a method, and that of the method prepared for a distribution.
-pub method-fits : (m : SamplingMethod) (vs : List Val) → shadow (method-field .row .own (method-type .to m) vs)
+pub method-fits : (m : SecretKeyMethod) (vs : List Val) → shadow (method-field .row .own (method-type .to m) vs)
     → T (fits binary64 (methodFields m .deviation))
 method-fits UniformBinary vs p = zero-fits
 method-fits (Binary t) vs p = zero-fits

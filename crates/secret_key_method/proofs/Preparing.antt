@@ -15,12 +15,12 @@ use Rattle.distr.proofs.Reading.{or-false}
 use Rattle.distr.proofs.Drawing.{not-refused}
 use Rattle.gaussian_core.proofs.Judged.{same-where-zero}
 use Rattle.gaussian_core.proofs.Made.{made-number as made-gaussian-number, made-parameters}
-use Rattle.secret_key_method.specs.declared.SamplingMethod.{SamplingMethod}
-use Rattle.secret_key_method.specs.declared.SamplingMethod.the-variants.{Binary, Ternary, Gaussian, Empty}
+use Rattle.secret_key_method.specs.declared.SecretKeyMethod.{SecretKeyMethod}
+use Rattle.secret_key_method.specs.declared.SecretKeyMethod.the-variants.{Binary, Ternary, Gaussian, Empty}
 use Rattle.secret_key_method.specs.Method.{prepared, judgedMethod, preparing}
 
 -- Two methods count as one where they are the same for the number 0.
-pub judged-same : (n k : ℕ) (m other : SamplingMethod) → n ≡ k → (k ≡ 0 → m ≡ other) → judgedMethod n m ≡ judgedMethod k other
+pub judged-same : (n k : ℕ) (m other : SecretKeyMethod) → n ≡ k → (k ≡ 0 → m ≡ other) → judgedMethod n m ≡ judgedMethod k other
 judged-same n k m other e h = rw (e, same-where-zero k m other Empty h)
 
 pub prepares-binary : (p : Float) → judgedMethod (madeThreshold p .number) (Binary (madeThreshold p .threshold)) ≡ preparing (Distr.Binary p)
@@ -38,7 +38,7 @@ pub both-good : (minus plus : Float) → badProbabilities minus plus ≡ false �
 both-good minus plus h = or-false _ _ (or-false (badProbability minus || badProbability plus) _ h .0)
 
 -- The threshold that a probability's making hands back.
-value-of : (p : Float) → badProbability p ≡ false → thresholdValue (madeThreshold p .threshold) ≡ threshold p
+pub value-of : (p : Float) → badProbability p ≡ false → thresholdValue (madeThreshold p .threshold) ≡ threshold p
 value-of p e = ap thresholdValue (made-threshold p e) ∙ flagged-value (threshold p)
 
 pub prepares-ternary : (minus plus : Float)

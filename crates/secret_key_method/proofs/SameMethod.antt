@@ -18,8 +18,8 @@ use Rattle.distr.specs.Thresholds.{threshold}
 use Rattle.distr.specs.Distribution.{secret, onDeviation}
 use Rattle.distr.specs.Making.{secretNumber, largest}
 use Rattle.ternary.specs.declared.ternary.TernaryValue.the-variants.{MinusOne, Zero, One}
-use Rattle.ternary.specs.declared.ternary.TernarySampler.{TernarySampler}
-use Rattle.ternary.specs.declared.ternary.TernarySampler.the-variants.{Constant, Nonzero, General}
+use Rattle.ternary.specs.declared.ternary.TernaryEnds.{TernaryEnds}
+use Rattle.ternary.specs.declared.ternary.TernaryEnds.the-variants.{Constant, Nonzero, General}
 use Rattle.ternary.specs.Sampler.{samplerOf}
 use Rattle.gaussian_core.proofs.Made.{made-positive}
 use Rattle.gaussian_core.proofs.SameFloat.{eq-same}
@@ -27,14 +27,14 @@ use Rattle.method_fields.specs.declared.MethodFields.{MethodFields}
 use Rattle.method_fields.specs.Fields.{sameFields}
 use Rattle.method_fields.proofs.Fields.{same-parts, same-itself}
 use Rattle.method_fields.proofs.Deviation.{positive-equal, zero-equal}
-use Rattle.secret_key_method.specs.declared.SamplingMethod.{SamplingMethod}
-use Rattle.secret_key_method.specs.declared.SamplingMethod.the-variants.{UniformBinary, Binary, SparseTernary, UniformTernary, Ternary, Empty}
-use Rattle.secret_key_method.specs.declared.SamplingMethod.the-variants.{FixedHammingWeightBinary, BlockBinary, Gaussian}
-use Rattle.secret_key_method.specs.declared.SamplingMethod.the-variants.{FixedHammingWeightTernary, FixedCompositionTernary}
+use Rattle.secret_key_method.specs.declared.SecretKeyMethod.{SecretKeyMethod}
+use Rattle.secret_key_method.specs.declared.SecretKeyMethod.the-variants.{UniformBinary, Binary, SparseTernary, UniformTernary, Ternary, Empty}
+use Rattle.secret_key_method.specs.declared.SecretKeyMethod.the-variants.{FixedHammingWeightBinary, BlockBinary, Gaussian}
+use Rattle.secret_key_method.specs.declared.SecretKeyMethod.the-variants.{FixedHammingWeightTernary, FixedCompositionTernary}
 use Rattle.secret_key_method.specs.Method.{prepared, magnitudeOf, ternaryFields, methodFields}
 
 -- The method back from its fields, by its kind; only a Gaussian's kind looks at the deviation.
-abbrev plainMethods : Bool → ℕ → ℕ → List SamplingMethod
+abbrev plainMethods : Bool → ℕ → ℕ → List SecretKeyMethod
 plainMethods full first second =
     Empty
     ∷ UniformBinary
@@ -53,16 +53,16 @@ plainMethods full first second =
     ∷ FixedCompositionTernary first second
     ∷ []
 
-methodOf : ℕ → Bool → ℕ → ℕ → Float → SamplingMethod
+methodOf : ℕ → Bool → ℕ → ℕ → Float → SecretKeyMethod
 methodOf kind full first second deviation =
     cond (eqb kind 15) (Gaussian (record { «standard_deviation» = deviation; «maximum_magnitude» = first }))
     (getD (plainMethods full first second) kind Empty)
 
-abbrev ofFields : MethodFields → SamplingMethod
+abbrev ofFields : MethodFields → SecretKeyMethod
 ofFields a = methodOf (a .kind) (a .full) (a .first) (a .second) (a .deviation)
 
 -- Nothing of a method is lost in its fields.
-ternary-back : (s : TernarySampler) → ofFields (ternaryFields s) ≡ Ternary s
+ternary-back : (s : TernaryEnds) → ofFields (ternaryFields s) ≡ Ternary s
 unfolding methodOf
 ternary-back (Constant MinusOne) = refl
 ternary-back (Constant Zero) = refl
@@ -70,7 +70,7 @@ ternary-back (Constant One) = refl
 ternary-back (Nonzero N) = refl
 ternary-back (General N E) = refl
 
-fields-back : (m : SamplingMethod) → ofFields (methodFields m) ≡ m
+fields-back : (m : SecretKeyMethod) → ofFields (methodFields m) ≡ m
 unfolding methodOf
 fields-back UniformBinary = refl
 fields-back (Binary t) = refl
@@ -107,7 +107,7 @@ data Kept (kind : ℕ) (x : Float) : Type 0 where
   gaussian : T (positive x) → Kept kind x
   other : (kind ≡ 15 → ⊥) → x ≡ literal 0 1 → Kept kind x
 
-kept-ternary : (s : TernarySampler) → Kept (ternaryFields s .kind) (ternaryFields s .deviation)
+kept-ternary : (s : TernaryEnds) → Kept (ternaryFields s .kind) (ternaryFields s .deviation)
 kept-ternary (Constant MinusOne) = other (λ e. omega (arith, e)) refl
 kept-ternary (Constant Zero) = other (λ e. omega (arith, e)) refl
 kept-ternary (Constant One) = other (λ e. omega (arith, e)) refl
@@ -137,7 +137,7 @@ kept-equal kind x (gaussian p) = positive-equal x p
 kept-equal kind x (other never z) = rw z zero-equal
 
 -- A method whose fields are those of the method prepared for a distribution, where that is accepted and the floats are values of f64.
-pub same-prepared : (m : SamplingMethod) (d : SecretKeyDistr) → secretNumber d ≡ 0
+pub same-prepared : (m : SecretKeyMethod) (d : SecretKeyDistr) → secretNumber d ≡ 0
     → T (fits binary64 (methodFields m .deviation)) → T (fits binary64 (methodFields (prepared d) .deviation))
     → T (sameFields (methodFields m) (methodFields (prepared d))) → m ≡ prepared d
 same-prepared m d z mine wanted h =
@@ -150,7 +150,7 @@ pub prepared-itself : (d : SecretKeyDistr) → secretNumber d ≡ 0 → sameFiel
 prepared-itself d z = same-itself (methodFields (prepared d)) (kept-equal _ _ (kept d z))
 
 -- A ternary method has 0.0 where a Gaussian has its deviation.
-sampler-deviation : (s : TernarySampler) → ternaryFields s .deviation ≡ literal 0 1
+sampler-deviation : (s : TernaryEnds) → ternaryFields s .deviation ≡ literal 0 1
 sampler-deviation (Constant MinusOne) = refl
 sampler-deviation (Constant Zero) = refl
 sampler-deviation (Constant One) = refl

@@ -10,19 +10,19 @@ use Rattle.distr.specs.Gaussian.{literal, support}
 use Rattle.distr.specs.Making.{secretNumber}
 use Rattle.probability.specs.Made.{flagged}
 use Rattle.ternary.specs.declared.ternary.TernaryValue.the-variants.{MinusOne, Zero, One}
-use Rattle.ternary.specs.declared.ternary.TernarySampler.{TernarySampler}
-use Rattle.ternary.specs.declared.ternary.TernarySampler.the-variants.{Constant, Nonzero, General}
+use Rattle.ternary.specs.declared.ternary.TernaryEnds.{TernaryEnds}
+use Rattle.ternary.specs.declared.ternary.TernaryEnds.the-variants.{Constant, Nonzero, General}
 use Rattle.ternary.specs.Sampler.{samplerOf}
 use Rattle.method_fields.specs.declared.MethodFields.{MethodFields}
 use Rattle.method_fields.specs.Fields.{fieldsOf, plainFields}
-use Rattle.secret_key_method.specs.declared.PreparedMethod.{PreparedMethod}
-use Rattle.secret_key_method.specs.declared.SamplingMethod.{SamplingMethod}
-use Rattle.secret_key_method.specs.declared.SamplingMethod.the-variants.{UniformBinary, Binary, SparseTernary, UniformTernary, Ternary, Empty}
-use Rattle.secret_key_method.specs.declared.SamplingMethod.the-variants.{FixedHammingWeightBinary, BlockBinary, Gaussian}
-use Rattle.secret_key_method.specs.declared.SamplingMethod.the-variants.{FixedHammingWeightTernary, FixedCompositionTernary}
+use Rattle.secret_key_method.specs.declared.PreparedSecretKeyMethod.{PreparedSecretKeyMethod}
+use Rattle.secret_key_method.specs.declared.SecretKeyMethod.{SecretKeyMethod}
+use Rattle.secret_key_method.specs.declared.SecretKeyMethod.the-variants.{UniformBinary, Binary, SparseTernary, UniformTernary, Ternary, Empty}
+use Rattle.secret_key_method.specs.declared.SecretKeyMethod.the-variants.{FixedHammingWeightBinary, BlockBinary, Gaussian}
+use Rattle.secret_key_method.specs.declared.SecretKeyMethod.the-variants.{FixedHammingWeightTernary, FixedCompositionTernary}
 
 -- The method that making prepares for a distribution.
-unfoldable pub prepared : SecretKeyDistr → SamplingMethod
+unfoldable pub prepared : SecretKeyDistr → SecretKeyMethod
 prepared Distr.UniformBinary = UniformBinary
 prepared (Distr.Binary p) = Binary (flagged (threshold p))
 prepared Distr.SparseTernary = SparseTernary
@@ -35,14 +35,14 @@ prepared (Distr.FixedCompositionTernary minus ones) = FixedCompositionTernary mi
 prepared (Distr.Gaussian deviation) = Gaussian (record { «standard_deviation» = deviation; «maximum_magnitude» = support deviation })
 
 -- The number of making and, where it is 0, the method.
-abbrev pub judgedMethod : ℕ → SamplingMethod → PreparedMethod
+abbrev pub judgedMethod : ℕ → SecretKeyMethod → PreparedSecretKeyMethod
 judgedMethod number method = record { number = number; method = cond (eqb number 0) method Empty }
 
-abbrev pub preparing : SecretKeyDistr → PreparedMethod
+abbrev pub preparing : SecretKeyDistr → PreparedSecretKeyMethod
 preparing d = judgedMethod (secretNumber d) (prepared d)
 
--- "Largest magnitude (M, else 1)", as the method keeps it.
-abbrev pub magnitudeOf : SamplingMethod → ℕ
+-- "Largest magnitude (M, eta, else 1)", as the method keeps it.
+abbrev pub magnitudeOf : SecretKeyMethod → ℕ
 magnitudeOf UniformBinary = 1
 magnitudeOf (Binary t) = 1
 magnitudeOf SparseTernary = 1
@@ -56,14 +56,14 @@ magnitudeOf (Gaussian parameters) = parameters .«maximum_magnitude»
 magnitudeOf Empty = 1
 
 -- A method's fields as numbers: its kind, and what it holds (0 where it holds nothing).
-abbrev pub ternaryFields : TernarySampler → MethodFields
+abbrev pub ternaryFields : TernaryEnds → MethodFields
 ternaryFields (Constant MinusOne) = plainFields 5 0 0
 ternaryFields (Constant Zero) = plainFields 6 0 0
 ternaryFields (Constant One) = plainFields 7 0 0
 ternaryFields (Nonzero N) = plainFields 8 N 0
 ternaryFields (General N E) = plainFields 9 N E
 
-abbrev pub methodFields : SamplingMethod → MethodFields
+abbrev pub methodFields : SecretKeyMethod → MethodFields
 methodFields UniformBinary = plainFields 1 0 0
 methodFields (Binary t) = fieldsOf 2 (t .full) (t .below) 0 (literal 0 1)
 methodFields SparseTernary = plainFields 3 0 0

@@ -1,25 +1,25 @@
 // A method as a record of numbers, so that two methods are compared number by number.
-use crate::SamplingMethod;
+use crate::SecretKeyMethod;
 use distr::secret_key_distr::BlockOccupancy;
 use method_fields::MethodFields;
 use method_fields::plain;
-use ternary::ternary::TernarySampler;
+use ternary::ternary::TernaryEnds;
 use ternary::ternary::TernaryValue;
 ghost use mathlib.Core.Path.{_≡_};
 ghost use Rattle.secret_key_method.specs.Method.{ternaryFields, methodFields};
 
 // The fields of the ternary sampler.
-fn ternary_fields(sampler: TernarySampler) -> MethodFields
+fn ternary_fields(sampler: TernaryEnds) -> MethodFields
     ensures { λ r. ⌜ r ≡ ternaryFields sampler ⌝ }
 {
     match sampler {
-        TernarySampler::Constant(value) => match value {
+        TernaryEnds::Constant(value) => match value {
             TernaryValue::MinusOne => plain(5, 0, 0),
             TernaryValue::Zero => plain(6, 0, 0),
             TernaryValue::One => plain(7, 0, 0),
         },
-        TernarySampler::Nonzero { negative_end } => plain(8, negative_end, 0),
-        TernarySampler::General {
+        TernaryEnds::Nonzero { negative_end } => plain(8, negative_end, 0),
+        TernaryEnds::General {
             negative_end,
             nonzero_end,
         } => plain(9, negative_end, nonzero_end),
@@ -27,45 +27,45 @@ fn ternary_fields(sampler: TernarySampler) -> MethodFields
 }
 
 // The fields of a method, its kind among them.
-pub fn method_fields(method: SamplingMethod) -> MethodFields
+pub fn method_fields(method: SecretKeyMethod) -> MethodFields
     ensures { λ r. ⌜ r ≡ methodFields method ⌝ }
 {
     match method {
-        SamplingMethod::UniformBinary => plain(1, 0, 0),
-        SamplingMethod::Binary(threshold) => MethodFields {
+        SecretKeyMethod::UniformBinary => plain(1, 0, 0),
+        SecretKeyMethod::Binary(threshold) => MethodFields {
             kind: 2,
             full: threshold.full,
             first: threshold.below,
             second: 0,
             deviation: 0.0,
         },
-        SamplingMethod::SparseTernary => plain(3, 0, 0),
-        SamplingMethod::UniformTernary => plain(4, 0, 0),
-        SamplingMethod::Ternary(sampler) => ternary_fields(sampler),
-        SamplingMethod::FixedHammingWeightBinary { hamming_weight } => {
+        SecretKeyMethod::SparseTernary => plain(3, 0, 0),
+        SecretKeyMethod::UniformTernary => plain(4, 0, 0),
+        SecretKeyMethod::Ternary(sampler) => ternary_fields(sampler),
+        SecretKeyMethod::FixedHammingWeightBinary { hamming_weight } => {
             plain(10, hamming_weight as u64, 0)
         }
-        SamplingMethod::BlockBinary {
+        SecretKeyMethod::BlockBinary {
             block_size,
             occupancy,
         } => match occupancy {
             BlockOccupancy::AtMostOne => plain(11, block_size as u64, 0),
             BlockOccupancy::ExactlyOne => plain(12, block_size as u64, 0),
         },
-        SamplingMethod::FixedHammingWeightTernary { hamming_weight } => {
+        SecretKeyMethod::FixedHammingWeightTernary { hamming_weight } => {
             plain(13, hamming_weight as u64, 0)
         }
-        SamplingMethod::FixedCompositionTernary {
+        SecretKeyMethod::FixedCompositionTernary {
             negative_one_weight,
             one_weight,
         } => plain(14, negative_one_weight as u64, one_weight as u64),
-        SamplingMethod::Gaussian(parameters) => MethodFields {
+        SecretKeyMethod::Gaussian(parameters) => MethodFields {
             kind: 15,
             full: false,
             first: parameters.maximum_magnitude,
             second: 0,
             deviation: parameters.standard_deviation,
         },
-        SamplingMethod::Empty => plain(0, 0, 0),
+        SecretKeyMethod::Empty => plain(0, 0, 0),
     }
 }

@@ -1,27 +1,27 @@
 -- The answers of a sampler's draws: 21 for one that making never gives, the other refusals in their order, and what the method of a made one draws.
 use mathlib.Core.Path.{_≡_, refl, sym, ap, _∙_, subst}
 use mathlib.Core.Bool.{Bool, true, false, not}
-use mathlib.Core.List.{List}
+use mathlib.Core.List.{List, map}
 use Prim.Native.Nat.{ℕ, _-_, _<_, _≤_}
 use native.Mathlib.Omega.{arith}
 use borrow.Author.Tests.{not-true, not-false, leb-true, leb-false}
 use lib.Dec.{T, leb}
 use lib.ListN.{length}
-use lib.IntN.{ℤ, negsuc}
+use lib.IntN.{ℤ}
 use Rattle.distr.specs.Distribution.{Tables, secret}
-use Rattle.distr.specs.Making.{makingNumber}
+use Rattle.distr.specs.Encoding.{encodeWith}
 use Rattle.distr.specs.Numbers.{lengthNumber, modulusNumber}
 use Rattle.distr.specs.Draw.{Outcome, signedDraw, encodedDraw}
-use Rattle.draw_laws.proofs.Signed.{signed-unmade}
-use Rattle.draw_laws.proofs.Encoded.{of-secret, encoded-unmade, encoded-length, encoded-modulus}
+use Rattle.draw_laws.proofs.Signed.{signed-unmade, own-signed}
+use Rattle.draw_laws.proofs.Encoded.{of-secret, encoded-unmade, encoded-length, encoded-modulus, own-encoded}
 use Rattle.secret_key_sampler.specs.declared.SecretKeySampler.{SecretKeySampler}
-use Rattle.secret_key_method.specs.declared.SamplingMethod.{SamplingMethod}
+use Rattle.secret_key_method.specs.declared.SecretKeyMethod.{SecretKeyMethod}
 use Rattle.secret_key_method.specs.Method.{magnitudeOf}
 use Rattle.secret_key_sampler.specs.Sampler.{isMade}
-use Rattle.secret_key_draws.specs.Drawing.{signedWrites, residueWrites, methodDraw}
+use Rattle.secret_key_draws.specs.Drawing.{methodDraw}
 use Rattle.distr.proofs.Drawing.{not-refused}
-use Rattle.secret_key_sampler.proofs.Made.{fitting, made-number, made-method, made-magnitude}
-use Rattle.secret_key_draws.proofs.Drawing.{prepared-signed, prepared-encoded}
+use Rattle.secret_key_sampler.proofs.Made.{fitting, made-method, made-magnitude}
+use Rattle.secret_key_draws.proofs.Drawing.{prepared-draw}
 
 -- What a test told, said of the sampler.
 pub is-unmade : (s : SecretKeySampler) (told : Bool) → told ≡ isMade s → not told ≡ true → isMade s ≡ false
@@ -54,13 +54,12 @@ module _ (s : SecretKeySampler) (tables : Tables) (words : List ℕ) (place : �
   signed-refused h = rw (is-unmade s told e h) (sym (signed-unmade tables words place out (secret (s .distr))))
 
   pub signed-drawn : T (fitting s) → not told ≡ false → (o : Outcome ℤ)
-      → o ≡ methodDraw (signedWrites (negsuc 0)) (s .method) tables words place out
+      → o ≡ methodDraw (λ cs. cs) (s .method) tables words place out
       → o ≡ signedDraw (isMade s) (secret (s .distr)) tables words place out
-  unfolding makingNumber
   signed-drawn f h o d =
       let made = is-made s told e h in
-      d ∙ ap (λ (m : SamplingMethod). methodDraw (signedWrites (negsuc 0)) m tables words place out) (made-method s f (made-so s made))
-      ∙ prepared-signed tables words place out (s .distr) (made-number s (made-so s made))
+      d ∙ ap (λ (m : SecretKeyMethod). methodDraw (λ cs. cs) m tables words place out) (made-method s f (made-so s made))
+      ∙ prepared-draw (λ cs. cs) tables words place out (s .distr) ∙ own-signed tables words place out (secret (s .distr)) _ refl
       ∙ ap (λ (b : Bool). signedDraw b (secret (s .distr)) tables words place out) (sym made)
 
 -- the draw of residues
@@ -88,13 +87,12 @@ module _ (s : SecretKeySampler) (tables : Tables) (q : ℕ) (words : List ℕ) (
       (subst (λ (k : ℕ). q ≤ k) (made-magnitude s f (made-so s (is-made s told e h))) m))
 
   pub encoded-drawn : T (fitting s) → not told ≡ false → magnitudeOf (s .method) < q → (o : Outcome ℕ)
-      → o ≡ methodDraw (residueWrites (q - 1)) (s .method) tables words place out
+      → o ≡ methodDraw (map (encodeWith (q - 1))) (s .method) tables words place out
       → o ≡ encodedDraw (isMade s) (secret (s .distr)) tables q words place out
-  unfolding makingNumber
   encoded-drawn f h m o d =
       let made = made-so s (is-made s told e h) in
       encoded-made h o (sym (
-      d ∙ ap (λ (m : SamplingMethod). methodDraw (residueWrites (q - 1)) m tables words place out) (made-method s f made)
-      ∙ prepared-encoded tables q words place out (s .distr) (made-number s made)
-      (subst (λ (k : ℕ). k < q) (made-magnitude s f made) m)
+      d ∙ ap (λ (m : SecretKeyMethod). methodDraw (map (encodeWith (q - 1))) m tables words place out) (made-method s f made)
+      ∙ prepared-draw (map (encodeWith (q - 1))) tables words place out (s .distr)
+      ∙ own-encoded tables q words place out (of-secret (s .distr)) (subst (λ (k : ℕ). k < q) (made-magnitude s f made) m) _ refl
       ))

@@ -8,11 +8,11 @@ use Rattle.distr.specs.Distribution.{Distr, secret}
 use Rattle.distr.specs.Draw.{Outcome, judged}
 use Rattle.distr.specs.Making.{makingNumber}
 use Rattle.draw_laws.proofs.Making.{number-made, call-refused, call-drawn}
-use Rattle.secret_key_sampler.specs.declared.MadeSampler.{MadeSampler}
+use Rattle.secret_key_sampler.specs.declared.MadeSecretKeySampler.{MadeSecretKeySampler}
 use Rattle.secret_key_sampler.specs.Sampler.{making, isMade}
 use Rattle.secret_key_sampler.proofs.Made.{makes}
 
-module _ (d : SecretKeyDistr) (m : MadeSampler) (h : m ≡ making d) where
+module _ (d : SecretKeyDistr) (m : MadeSecretKeySampler) (h : m ≡ making d) where
   pub made-number : m .number ≡ makingNumber (secret d)
   made-number = number-made makes d m h ∙ sym (makes .judges d)
 

@@ -17,12 +17,12 @@ use Rattle.distr.specs.Numbers.{servesCrt}
 use Rattle.distr.specs.Draw.{Outcome, crtDraw}
 use Rattle.draw_laws.proofs.Crt.{crt-unmade}
 use Rattle.error_sampler.specs.declared.ErrorSampler.{ErrorSampler}
-use Rattle.error_sampler.specs.declared.MadeSampler.{MadeSampler}
+use Rattle.error_sampler.specs.declared.MadeErrorSampler.{MadeErrorSampler}
 use Rattle.error_sampler.specs.Sampler.{making, emptySampler, isMade as isMadeError}
 use Rattle.error_sampler.proofs.Made.{empty-not-made}
 use Rattle.error_sampler.proofs.Secrets.{making-gaussian, secret-gaussian}
 use Rattle.secret_key_sampler.specs.declared.SecretKeySampler.{SecretKeySampler}
-use Rattle.secret_key_method.specs.declared.SamplingMethod.{SamplingMethod}
+use Rattle.secret_key_method.specs.declared.SecretKeyMethod.{SecretKeyMethod}
 use Rattle.method_fields.specs.declared.MethodFields.{MethodFields}
 use Rattle.secret_key_method.specs.Method.{prepared, methodFields}
 use Rattle.secret_key_method.proofs.SameMethod.{ternary-deviation}
@@ -44,7 +44,7 @@ module _ (tables : Tables) (count : ℕ) (moduli words : List ℕ) (place : ℕ)
   drawnBy e = crtDraw (isMadeError e) (error (e .distribution)) tables count moduli words place out
 
   -- that of the one with a method's deviation
-  abbrev methodCrt : SamplingMethod → Outcome ℕ
+  abbrev methodCrt : SecretKeyMethod → Outcome ℕ
   methodCrt m = drawnBy (ofDeviation (methodFields m .deviation))
 
   -- a distribution that CRT draws do not serve
@@ -79,11 +79,11 @@ module _ (tables : Tables) (count : ℕ) (moduli words : List ℕ) (place : ℕ)
 
     -- the sampler made from the deviation in the method's fields draws it
     pub crt-drawn : T (fitting s) → not told ≡ false → (fields : MethodFields) → fields ≡ methodFields (s .method)
-        → (m : MadeSampler) → m ≡ making (Error.Gaussian (fields .deviation)) → (o : Outcome ℕ) → o ≡ drawnBy (m .sampler)
+        → (m : MadeErrorSampler) → m ≡ making (Error.Gaussian (fields .deviation)) → (o : Outcome ℕ) → o ≡ drawnBy (m .sampler)
         → o ≡ crtDraw (isMade s) (secret (s .distr)) tables count moduli words place out
     crt-drawn f h fields same m makes o d =
         let made = is-made s told e h in
-        d ∙ ap (λ (r : MadeSampler). drawnBy (r .sampler)) makes
+        d ∙ ap (λ (r : MadeErrorSampler). drawnBy (r .sampler)) makes
         ∙ ap (λ (r : MethodFields). drawnBy (ofDeviation (r .deviation))) same
         ∙ ap methodCrt (made-method s f (made-so s made))
         ∙ prepared-crt (s .distr) (made-number s (made-so s made))

@@ -12,7 +12,7 @@ use Rattle.method_fields.specs.Fields.{sameFields}
 use Rattle.secret_key_method.specs.Method.{prepared, magnitudeOf, methodFields}
 use Rattle.secret_key_method.proofs.SameMethod.{same-prepared, prepared-itself, prepared-magnitude}
 use Rattle.secret_key_sampler.specs.declared.SecretKeySampler.{SecretKeySampler}
-use Rattle.secret_key_sampler.specs.declared.MadeSampler.{MadeSampler}
+use Rattle.secret_key_sampler.specs.declared.MadeSecretKeySampler.{MadeSecretKeySampler}
 use Rattle.secret_key_sampler.specs.Sampler.{emptySampler, making, isMade}
 
 -- The floats of a sampler are values of f64, as they are in every sampler that code can hold.
@@ -45,7 +45,7 @@ pub own-judge : (d : SecretKeyDistr) → makingNumber (secret d) ≡ secretNumbe
 unfolding makingNumber
 own-judge d = refl
 
-abbrev pub makes : Makes SecretKeyDistr SecretKeySampler MadeSampler
+abbrev pub makes : Makes SecretKeyDistr SecretKeySampler MadeSecretKeySampler
 makes = record {
   kind = secret;
   judge = secretNumber;

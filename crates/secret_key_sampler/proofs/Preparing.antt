@@ -7,18 +7,18 @@ use Rattle.distr.specs.declared.secret_key_distr.SecretKeyDistr.{SecretKeyDistr
 use Rattle.distr.specs.Making.{secretNumber}
 use Rattle.gaussian_core.proofs.Judged.{tested-first}
 use Rattle.method_fields.specs.Fields.{sameFields}
-use Rattle.secret_key_method.specs.declared.PreparedMethod.{PreparedMethod}
-use Rattle.secret_key_method.specs.declared.SamplingMethod.the-variants.{Empty}
+use Rattle.secret_key_method.specs.declared.PreparedSecretKeyMethod.{PreparedSecretKeyMethod}
+use Rattle.secret_key_method.specs.declared.SecretKeyMethod.the-variants.{Empty}
 use Rattle.secret_key_method.specs.Method.{prepared, preparing, methodFields}
 use Rattle.secret_key_sampler.specs.declared.SecretKeySampler.{SecretKeySampler}
 use Rattle.secret_key_sampler.specs.Sampler.{emptySampler, making, isMade}
 
 -- A prepared method makes the sampler where its number is 0, else the empty one.
-pub made-sampler : (d : SecretKeyDistr) (p : PreparedMethod) → p ≡ preparing d → p .number ≡ 0
+pub made-sampler : (d : SecretKeyDistr) (p : PreparedSecretKeyMethod) → p ≡ preparing d → p .number ≡ 0
     → record { number = 0; sampler = record { distr = d; method = p .method } } ≡ making d
-made-sampler d p e z = let zero : secretNumber d ≡ 0 = sym (ap (λ (q : PreparedMethod). q .number) e) ∙ z in rw (e, zero)
+made-sampler d p e z = let zero : secretNumber d ≡ 0 = sym (ap (λ (q : PreparedSecretKeyMethod). q .number) e) ∙ z in rw (e, zero)
 
-pub made-none : (d : SecretKeyDistr) (p : PreparedMethod) → p ≡ preparing d → (p .number ≡ 0 → ⊥)
+pub made-none : (d : SecretKeyDistr) (p : PreparedSecretKeyMethod) → p ≡ preparing d → (p .number ≡ 0 → ⊥)
     → record { number = p .number; sampler = emptySampler } ≡ making d
 made-none d p e z = rw e (let some : eqb (secretNumber d) 0 ≡ false = ne-eqb _ _ (rw e at z) in rw some)
 

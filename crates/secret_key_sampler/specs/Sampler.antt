@@ -5,17 +5,17 @@ use Rattle.distr.specs.declared.secret_key_distr.SecretKeyDistr.{SecretKeyDistr
 use Rattle.distr.specs.declared.secret_key_distr.SecretKeyDistr.the-variants as Distr
 use Rattle.distr.specs.Making.{secretNumber}
 use Rattle.method_fields.specs.Fields.{sameFields}
-use Rattle.secret_key_method.specs.declared.SamplingMethod.the-variants.{Empty}
+use Rattle.secret_key_method.specs.declared.SecretKeyMethod.the-variants.{Empty}
 use Rattle.secret_key_method.specs.Method.{prepared, methodFields}
 use Rattle.secret_key_sampler.specs.declared.SecretKeySampler.{SecretKeySampler}
-use Rattle.secret_key_sampler.specs.declared.MadeSampler.{MadeSampler}
+use Rattle.secret_key_sampler.specs.declared.MadeSecretKeySampler.{MadeSecretKeySampler}
 
 -- "Making a sampler that is refused hands back an empty sampler."
 abbrev pub emptySampler : SecretKeySampler
 emptySampler = record { distr = Distr.UniformBinary; method = Empty }
 
 -- Numbers 1 to 5, or 0 and the sampler.
-abbrev pub making : SecretKeyDistr → MadeSampler
+abbrev pub making : SecretKeyDistr → MadeSecretKeySampler
 making d =
     cond (eqb (secretNumber d) 0) (record { number = 0; sampler = record { distr = d; method = prepared d } })
     (record { number = secretNumber d; sampler = emptySampler })

@@ -16,18 +16,18 @@ impl SecretKeySampler {
     pub fn sample_crt_to(
         self,
         output: &mut [u64],
-        count: usize,
+        coefficient_count: usize,
         moduli: &[u64],
-        words: &[u32],
-        place: usize,
         bounds: &[u64],
         endpoints: &[u64],
         heights: &[f64],
         curve: &[f64],
+        words: &[u32],
+        place: usize,
     ) -> Answer
         ensures { λ r. ⌜ outcome r (now (output .exit)) ≡ crtDraw (isMade self) (secret (self .distr))
             (lent (now (bounds .entry)) (now (endpoints .entry)) (now (heights .entry)) (now (curve .entry)))
-            count (now (moduli .entry)) (now (words .entry)) place (now (output .entry)) ⌝ }
+            «coefficient_count» (now (moduli .entry)) (now (words .entry)) place (now (output .entry)) ⌝ }
     {
         if !crate::is_made(self) {
             return Answer { number: 21, place };
@@ -38,14 +38,14 @@ impl SecretKeySampler {
         let sampler = made.sampler;
         sampler.sample_crt_to(
             output,
-            count,
+            coefficient_count,
             moduli,
-            words,
-            place,
             bounds,
             endpoints,
             heights,
             curve,
+            words,
+            place,
         )
     }
 }

@@ -1,10 +1,11 @@
 // The signed draw of a prepared sampler.
 use crate::SecretKeySampler;
 use distr::answer::Answer;
-use secret_key_draws::signed::sample_to_with_i64;
+use output_i64::Encoding;
+use secret_key_draws_i64::sample_to_with;
 ghost use Rattle.distr.specs.Distribution.{secret};
 ghost use Rattle.distr.specs.Draw.{outcome};
-ghost use Rattle.counts.specs.Demand3.{Meets};
+ghost use Rattle.distr.specs.Draw.{Meets};
 ghost use Rattle.signed_discrete_gaussian.specs.Lent.{lent};
 ghost use Rattle.secret_key_sampler.specs.Sampler.{isMade};
 
@@ -13,12 +14,12 @@ impl SecretKeySampler {
     pub fn sample_signed_to(
         self,
         output: &mut [i64],
-        words: &[u32],
-        place: usize,
         bounds: &[u64],
         endpoints: &[u64],
         heights: &[f64],
         curve: &[f64],
+        words: &[u32],
+        place: usize,
     ) -> Answer
         ensures { λ r. ⌜ Meets (isMade self) (secret (self .distr))
             (lent (now (bounds .entry)) (now (endpoints .entry)) (now (heights .entry)) (now (curve .entry)))
@@ -28,16 +29,16 @@ impl SecretKeySampler {
             return Answer { number: 21, place };
         }
         let method = self.method;
-        sample_to_with_i64(
-            method,
+        sample_to_with(
             output,
-            -1,
-            words,
-            place,
+            Encoding {},
+            method,
             bounds,
             endpoints,
             heights,
             curve,
+            words,
+            place,
         )
     }
 }

@@ -8,10 +8,8 @@ use borrow.Author.Tests.{lt-ltb, le-ltb, ne-eqb}
 use lib.Dec.{eqb}
 use lib.ListN.{length, take, replicate}
 use lib.IntN.{ℤ, pos}
-use Rattle.distr.specs.Making.{makingNumber}
-use Rattle.distr.specs.Draw.{Outcome, judged, encodedDraw}
-use Rattle.distr.proofs.Writing.{map-replicate}
-use Rattle.sheet_request.specs.Request.{knownKind, kindDistr, noTables, requestSigned, requestEncoded}
+use Rattle.distr.specs.Draw.{Outcome}
+use Rattle.sheet_request.specs.Request.{knownKind, requestSigned, requestEncoded}
 use Rattle.sheet_request.proofs.Requests.{known-kind}
 use Rattle.sheet.specs.declared.fields.Fields.{Fields}
 use Rattle.sheet.specs.Text.{answerText}
@@ -25,21 +23,10 @@ signed-draw : (kind n a b modulus : ℕ) (words : List ℕ) → knownKind kind �
 unfolding requestSigned drawOf
 signed-draw kind n a b modulus words known z = rw (known, z)
 
-residues-judged : (number : ℕ) (out : List ℕ) (o : Outcome ℕ) → residues (judged number 0 out o) ≡ judged number 0 (map pos out) (residues o)
-unfolding judged
-residues-judged number out o = go (eqb number 0) refl
-  where
-    go : (b : Bool) → eqb number 0 ≡ b → residues (judged number 0 out o) ≡ judged number 0 (map pos out) (residues o)
-    go true e = rw e
-    go false e = rw e
-
 encoded-draw : (kind n a b modulus : ℕ) (words : List ℕ) → knownKind kind ≡ true → (modulus ≡ 0 → ⊥)
     → residues (requestEncoded kind a b modulus words (replicate n 0)) ≡ drawOf kind n a b modulus words
 unfolding requestEncoded drawOf
-encoded-draw kind n a b modulus words known ne =
-    let d = kindDistr kind a b in
-    rw (known, ne-eqb modulus 0 ne, ← map-replicate pos n 0)
-    (residues-judged (makingNumber d) (replicate n 0) (encodedDraw true d noTables modulus words 0 (replicate n 0)))
+encoded-draw kind n a b modulus words known ne = rw (known, ne-eqb modulus 0 ne)
 
 -- The text of a draw on zeros is the text of the fields.
 pub signed-text : (f : Fields) (words : List ℕ) (room : List ℤ) (o : Outcome ℤ) → 1 ≤ f .kind → f .kind ≤ 9 → f .modulus ≡ 0

@@ -6,9 +6,8 @@ use lib.Dec.{leb, ltb, eqb}
 use lib.ListN.{length, getD, replicate}
 use lib.Seq.{sets}
 use lib.IntN.{ℤ, pos}
-use Rattle.distr.specs.Making.{makingNumber}
-use Rattle.distr.specs.Draw.{Outcome, judged, signedDraw, encodedDraw}
-use Rattle.sheet_request.specs.Request.{kindDistr, noTables}
+use Rattle.distr.specs.Draw.{Outcome, signedAtOnce, encodedAtOnce}
+use Rattle.sheet_request.specs.Request.{kindDistr}
 use Rattle.sheet.specs.declared.fields.Fields.{Fields}
 use Rattle.sheet.specs.Text.{answerText}
 
@@ -65,10 +64,7 @@ residues o = record { number = o .number; place = o .place; output = map pos (o 
 unfoldable pub drawOf : ℕ → ℕ → ℕ → ℕ → ℕ → List ℕ → Outcome ℤ
 drawOf kind n a b modulus words =
     let d = kindDistr kind a b in
-    let zeros = replicate n (pos 0) in
-    judged (makingNumber d) 0 zeros
-    (cond (eqb modulus 0) (signedDraw true d noTables words 0 zeros)
-    (residues (encodedDraw true d noTables modulus words 0 (replicate n 0))))
+    cond (eqb modulus 0) (signedAtOnce d words 0 (replicate n (pos 0))) (residues (encodedAtOnce d modulus words 0 (replicate n 0)))
 
 -- The answer of an outcome: its number, the words used, n, and the coefficients.
 abbrev pub outcomeText : ℕ → Outcome ℤ → List ℕ

@@ -34,7 +34,7 @@ unfoldable pub line : List ℤ → List ℕ
 line [] = 10 ∷ []
 line (v ∷ vs) = signedText v ++ lineRest vs
 
--- "Two lines: number, words used, n; then the coefficients. A refusal prints number, 0, 0 alone."
+-- "Two lines: number, words used, n; then the coefficients (an empty line for n = 0). A refusal prints number, 0, 0 alone."
 unfoldable pub answerText : ℕ → ℕ → ℕ → List ℤ → List ℕ
 answerText number used n coefficients =
     cond (eqb number 0) (line (pos 0 ∷ pos used ∷ pos n ∷ []) ++ line coefficients) (line (pos number ∷ pos 0 ∷ pos 0 ∷ []))

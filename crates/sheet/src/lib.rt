@@ -1,4 +1,4 @@
-// The sheet: its fields and words, and the text that answers it.
+// Serves the program keysheet: a sheet's fields and words, and the text that answers it.
 mod answer;
 mod fields;
 mod reply;

@@ -33,7 +33,7 @@ pub(crate) fn reply_signed(f: Fields, words: &[u32], text: &mut [u8]) -> usize
     let b = f.b;
     let mut room = no_coefficients();
     let output = &mut room[..n];
-    let drawn = sheet_request::draw_signed(kind, a, b, output, words);
+    let drawn = sheet_request::draw_signed(output, kind, a, b, words);
     let number = drawn.number;
     if number != 0 {
         return answer::write_refusal(text, number);
@@ -53,7 +53,7 @@ pub(crate) fn reply_encoded(f: Fields, words: &[u32], text: &mut [u8]) -> usize
     let modulus = f.modulus as u64;
     let mut room = no_residues();
     let output = &mut room[..n];
-    let drawn = sheet_request::draw_encoded(kind, a, b, modulus, output, words);
+    let drawn = sheet_request::draw_encoded(output, kind, a, b, modulus, words);
     let number = drawn.number;
     if number != 0 {
         return answer::write_refusal(text, number);

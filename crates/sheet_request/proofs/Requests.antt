@@ -7,10 +7,10 @@ use mathlib.Core.List.{List}
 use borrow.Author.Tests.{le-leb, lt-leb}
 use lib.IntN.{ℤ}
 use Rattle.distr.specs.Distribution.{Distr, secret, error}
-use Rattle.distr.specs.Draw.{Outcome}
+use Rattle.distr.specs.Draw.{Outcome, signedAtOnce, encodedAtOnce}
 use Rattle.sheet_request.specs.declared.Request.{Request}
 use Rattle.sheet_request.specs.declared.Request.the-variants.{Secret, Error, Refused}
-use Rattle.sheet_request.specs.Request.{knownKind, kindDistr, requestOf, madeSigned, madeEncoded, requestSigned, requestEncoded}
+use Rattle.sheet_request.specs.Request.{knownKind, kindDistr, requestOf, requestSigned, requestEncoded}
 
 -- A draw by the kind of request is the draw of the distribution that was asked for.
 unfoldable pub byRequest : {A : Type 0} → (Distr → Outcome A) → Outcome A → Request → Outcome A
@@ -26,16 +26,16 @@ by-request draws refusal true (error d) = refl
 by-request draws refusal false d = refl
 
 pub signed-request : (kind a b : ℕ) (words : List ℕ) (out : List ℤ) {q t : Request} → q ≡ t → q ≡ requestOf (knownKind kind) (kindDistr kind a b)
-    → byRequest (λ (d : Distr). madeSigned d words out) (record { number = 14; place = 0; output = out }) t ≡ requestSigned kind a b words out
+    → byRequest (λ (d : Distr). signedAtOnce d words 0 out) (record { number = 14; place = 0; output = out }) t ≡ requestSigned kind a b words out
 unfolding requestSigned
-signed-request kind a b words out e h = rw (← e, h) (by-request (λ (d : Distr). madeSigned d words out) _ (knownKind kind) (kindDistr kind a b))
+signed-request kind a b words out e h = rw (← e, h) (by-request (λ (d : Distr). signedAtOnce d words 0 out) _ (knownKind kind) (kindDistr kind a b))
 
 pub encoded-request : (kind a b modulus : ℕ) (words out : List ℕ) {q t : Request} → q ≡ t → q ≡ requestOf (knownKind kind) (kindDistr kind a b)
-    → byRequest (λ (d : Distr). madeEncoded d modulus words out) (record { number = 14; place = 0; output = out }) t
+    → byRequest (λ (d : Distr). encodedAtOnce d modulus words 0 out) (record { number = 14; place = 0; output = out }) t
     ≡ requestEncoded kind a b modulus words out
 unfolding requestEncoded
 encoded-request kind a b modulus words out e h =
-    rw (← e, h) (by-request (λ (d : Distr). madeEncoded d modulus words out) _ (knownKind kind) (kindDistr kind a b))
+    rw (← e, h) (by-request (λ (d : Distr). encodedAtOnce d modulus words 0 out) _ (knownKind kind) (kindDistr kind a b))
 
 -- A number that is not below k and not k is above it.
 pub pass : (k kind : ℕ) → k ≤ kind → (kind ≡ k → ⊥) → suc k ≤ kind

@@ -8,9 +8,8 @@ use lib.IntN.{ℤ}
 use Rattle.distr.specs.declared.secret_key_distr.SecretKeyDistr.the-variants.{UniformBinary, SparseTernary, UniformTernary, FixedHammingWeightBinary, BlockBinary, FixedHammingWeightTernary, FixedCompositionTernary}
 use Rattle.distr.specs.declared.secret_key_distr.BlockOccupancy.the-variants.{AtMostOne, ExactlyOne}
 use Rattle.distr.specs.declared.error_distribution.ErrorDistribution.the-variants.{CenteredBinomial}
-use Rattle.distr.specs.Distribution.{Distr, secret, error, Tables}
-use Rattle.distr.specs.Making.{makingNumber}
-use Rattle.distr.specs.Draw.{Outcome, judged, signedDraw, encodedDraw}
+use Rattle.distr.specs.Distribution.{Distr, secret, error}
+use Rattle.distr.specs.Draw.{Outcome, signedAtOnce, encodedAtOnce}
 use Rattle.sheet_request.specs.declared.Request.{Request}
 use Rattle.sheet_request.specs.declared.Request.the-variants.{Secret, Error, Refused}
 
@@ -41,26 +40,12 @@ requestOf true (secret d) = Secret d
 requestOf true (error d) = Error d
 requestOf false d = Refused
 
--- A sheet lends no tables, and no kind needs one.
-abbrev pub noTables : Tables
-noTables = record { bounds = []; layers = record { endpoints = []; heights = []; curve = [] } }
-
--- The numbers of making come before those of the draw, and leave the output as it is.
-abbrev pub made : {A : Type 0} → Distr → List A → Outcome A → Outcome A
-made d out drawn = judged (makingNumber d) 0 out drawn
-
-abbrev pub madeSigned : Distr → List ℕ → List ℤ → Outcome ℤ
-madeSigned d words out = made d out (signedDraw true d noTables words 0 out)
-
-abbrev pub madeEncoded : Distr → ℕ → List ℕ → List ℕ → Outcome ℕ
-madeEncoded d modulus words out = made d out (encodedDraw true d noTables modulus words 0 out)
-
--- Number 14 for another kind; else the distribution's making and draw.
+-- Number 14 for another kind; else the draw, from the first word on. The numbers of making come before those of the draw, and a sheet lends no tables.
 abbrev pub known : {A : Type 0} → ℕ → List A → Outcome A → Outcome A
 known kind out drawn = cond (knownKind kind) drawn (record { number = 14; place = 0; output = out })
 
 unfoldable pub requestSigned : ℕ → ℕ → ℕ → List ℕ → List ℤ → Outcome ℤ
-requestSigned kind a b words out = known kind out (madeSigned (kindDistr kind a b) words out)
+requestSigned kind a b words out = known kind out (signedAtOnce (kindDistr kind a b) words 0 out)
 
 unfoldable pub requestEncoded : ℕ → ℕ → ℕ → ℕ → List ℕ → List ℕ → Outcome ℕ
-requestEncoded kind a b modulus words out = known kind out (madeEncoded (kindDistr kind a b) modulus words out)
+requestEncoded kind a b modulus words out = known kind out (encodedAtOnce (kindDistr kind a b) modulus words 0 out)

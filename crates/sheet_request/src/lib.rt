@@ -1,4 +1,5 @@
-// A request by numbers: the kind selects the distribution, which is made and drawn once into a lent output.
+// Inner crate of the program keysheet: a request by numbers, whose kind selects the distribution, which is made and drawn once into a
+// lent output by a sampler of primus_distr.
 use distr::answer::Answer;
 use distr::error_distribution::ErrorDistribution;
 use distr::secret_key_distr::BlockOccupancy;
@@ -7,8 +8,8 @@ use error_sampler::ErrorSampler;
 use secret_key_sampler::SecretKeySampler;
 ghost use mathlib.Core.Path.{_≡_};
 ghost use Rattle.distr.specs.Distribution.{secret, error};
-ghost use Rattle.distr.specs.Draw.{outcome};
-ghost use Rattle.sheet_request.specs.Request.{knownKind, kindDistr, requestOf, madeSigned, madeEncoded, requestSigned, requestEncoded};
+ghost use Rattle.distr.specs.Draw.{outcome, signedAtOnce, encodedAtOnce};
+ghost use Rattle.sheet_request.specs.Request.{knownKind, kindDistr, requestOf, requestSigned, requestEncoded};
 
 // The distribution that is asked for, by the sampler that draws it.
 pub enum Request {
@@ -49,8 +50,8 @@ fn select(kind: u32, a: u32, b: u32) -> Request
 }
 
 // Makes a secret-key sampler and draws signed coefficients. No kind of a request needs a table.
-fn draw_secret_i64(distr: SecretKeyDistr, output: &mut [i64], words: &[u32]) -> Answer
-    ensures { λ r. ⌜ outcome r (now (output .exit)) ≡ madeSigned (secret distr) (now (words .entry)) (now (output .entry)) ⌝ }
+fn draw_secret_i64(output: &mut [i64], distr: SecretKeyDistr, words: &[u32]) -> Answer
+    ensures { λ r. ⌜ outcome r (now (output .exit)) ≡ signedAtOnce (secret distr) (now (words .entry)) 0 (now (output .entry)) ⌝ }
 {
     let made = SecretKeySampler::try_new(distr);
     let number = made.number;
@@ -62,12 +63,12 @@ fn draw_secret_i64(distr: SecretKeyDistr, output: &mut [i64], words: &[u32]) -> 
     let table = &numbers[..0];
     let curve = &floats[..0];
     let sampler = made.sampler;
-    sampler.sample_signed_to(output, words, 0, table, table, curve, curve)
+    sampler.sample_signed_to(output, table, table, curve, curve, words, 0)
 }
 
 // The same for residues.
-fn draw_secret_u64(distr: SecretKeyDistr, modulus: u64, output: &mut [u64], words: &[u32]) -> Answer
-    ensures { λ r. ⌜ outcome r (now (output .exit)) ≡ madeEncoded (secret distr) modulus (now (words .entry)) (now (output .entry)) ⌝ }
+fn draw_secret_u64(output: &mut [u64], distr: SecretKeyDistr, modulus: u64, words: &[u32]) -> Answer
+    ensures { λ r. ⌜ outcome r (now (output .exit)) ≡ encodedAtOnce (secret distr) modulus (now (words .entry)) 0 (now (output .entry)) ⌝ }
 {
     let made = SecretKeySampler::try_new(distr);
     let number = made.number;
@@ -79,12 +80,12 @@ fn draw_secret_u64(distr: SecretKeyDistr, modulus: u64, output: &mut [u64], word
     let table = &numbers[..0];
     let curve = &floats[..0];
     let sampler = made.sampler;
-    sampler.sample_encoded_to(output, modulus, words, 0, table, table, curve, curve)
+    sampler.sample_encoded_to(output, modulus, table, table, curve, curve, words, 0)
 }
 
 // Makes an error sampler and draws signed coefficients.
-fn draw_error_i64(distr: ErrorDistribution, output: &mut [i64], words: &[u32]) -> Answer
-    ensures { λ r. ⌜ outcome r (now (output .exit)) ≡ madeSigned (error distr) (now (words .entry)) (now (output .entry)) ⌝ }
+fn draw_error_i64(output: &mut [i64], distr: ErrorDistribution, words: &[u32]) -> Answer
+    ensures { λ r. ⌜ outcome r (now (output .exit)) ≡ signedAtOnce (error distr) (now (words .entry)) 0 (now (output .entry)) ⌝ }
 {
     let made = ErrorSampler::try_new(distr);
     let number = made.number;
@@ -96,17 +97,17 @@ fn draw_error_i64(distr: ErrorDistribution, output: &mut [i64], words: &[u32]) -
     let table = &numbers[..0];
     let curve = &floats[..0];
     let sampler = made.sampler;
-    sampler.sample_signed_to(output, words, 0, table, table, curve, curve)
+    sampler.sample_signed_to(output, table, table, curve, curve, words, 0)
 }
 
 // The same for residues: "kind 9 with a modulus draws as CRT of one".
 fn draw_error_u64(
+    output: &mut [u64],
     distr: ErrorDistribution,
     modulus: u64,
-    output: &mut [u64],
     words: &[u32],
 ) -> Answer
-    ensures { λ r. ⌜ outcome r (now (output .exit)) ≡ madeEncoded (error distr) modulus (now (words .entry)) (now (output .entry)) ⌝ }
+    ensures { λ r. ⌜ outcome r (now (output .exit)) ≡ encodedAtOnce (error distr) modulus (now (words .entry)) 0 (now (output .entry)) ⌝ }
 {
     let made = ErrorSampler::try_new(distr);
     let number = made.number;
@@ -118,16 +119,16 @@ fn draw_error_u64(
     let table = &numbers[..0];
     let curve = &floats[..0];
     let sampler = made.sampler;
-    sampler.sample_encoded_to(output, modulus, words, 0, table, table, curve, curve)
+    sampler.sample_encoded_to(output, modulus, table, table, curve, curve, words, 0)
 }
 
 // Draws signed coefficients of a kind: 14 for a kind that is none, then the numbers of making, then those of the draw.
-pub fn draw_signed(kind: u32, a: u32, b: u32, output: &mut [i64], words: &[u32]) -> Answer
+pub fn draw_signed(output: &mut [i64], kind: u32, a: u32, b: u32, words: &[u32]) -> Answer
     ensures { λ r. ⌜ outcome r (now (output .exit)) ≡ requestSigned kind a b (now (words .entry)) (now (output .entry)) ⌝ }
 {
     match select(kind, a, b) {
-        Request::Secret(distr) => draw_secret_i64(distr, output, words),
-        Request::Error(distr) => draw_error_i64(distr, output, words),
+        Request::Secret(distr) => draw_secret_i64(output, distr, words),
+        Request::Error(distr) => draw_error_i64(output, distr, words),
         Request::Refused => Answer {
             number: 14,
             place: 0,
@@ -137,18 +138,18 @@ pub fn draw_signed(kind: u32, a: u32, b: u32, output: &mut [i64], words: &[u32])
 
 // The same for residues of a modulus.
 pub fn draw_encoded(
+    output: &mut [u64],
     kind: u32,
     a: u32,
     b: u32,
     modulus: u64,
-    output: &mut [u64],
     words: &[u32],
 ) -> Answer
     ensures { λ r. ⌜ outcome r (now (output .exit)) ≡ requestEncoded kind a b modulus (now (words .entry)) (now (output .entry)) ⌝ }
 {
     match select(kind, a, b) {
-        Request::Secret(distr) => draw_secret_u64(distr, modulus, output, words),
-        Request::Error(distr) => draw_error_u64(distr, modulus, output, words),
+        Request::Secret(distr) => draw_secret_u64(output, distr, modulus, words),
+        Request::Error(distr) => draw_error_u64(output, distr, modulus, words),
         Request::Refused => Answer {
             number: 14,
             place: 0,

@@ -1,6 +1,6 @@
--- The support decides which backend serves: its table number and its draw are those of the definitions.
+-- The support decides which backend serves: its draw is that of the definitions.
 use mathlib.Core.Path.{_≡_, _∙_}
-use mathlib.Core.Bool.{Bool, not}
+use mathlib.Core.Bool.{not}
 use mathlib.Core.List.{List}
 use Prim.Native.Nat.{ℕ, _<_, _≤_}
 use borrow.Author.Tests.{le-leb, lt-leb}
@@ -13,14 +13,6 @@ use Rattle.distr.specs.Distribution.{Tables, gaussianRead}
 use Rattle.distr.specs.Making.{refuse}
 use Rattle.distr.specs.Numbers.{gaussianTable}
 use Rattle.distr.specs.Draw.{Outcome, readDraw, ruleDraw}
-
-module _ (M : ℕ) (tables : Tables) where
-  -- the number of the tables that a support uses, by what their test told
-  pub table-small : (b told : Bool) → b ≡ told → M ≤ 255 → b ≡ cumulativeTable M (tables .bounds) → refuse (not told) 12 ≡ gaussianTable M tables
-  table-small b told t h e = rw (← t, e, le-leb M 255 h)
-
-  pub table-large : (b told : Bool) → b ≡ told → 255 < M → b ≡ layerTables M (tables .layers) → refuse (not told) 13 ≡ gaussianTable M tables
-  table-large b told t h e = rw (← t, e, lt-leb M 255 h)
 
 module _ {A : Type 0} (write : List ℤ → List A) (deviation : Float) (M : ℕ) (tables : Tables) (words : List ℕ) (place : ℕ) (out : List A) where
   -- the draw of the backend is the Gaussian's

@@ -1,5 +1,4 @@
 -- Laws of the draws by two thresholds.
 pub mod Slots
 pub mod Sampling
-pub mod Values
 pub mod Plans

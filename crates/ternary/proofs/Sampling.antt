@@ -1,19 +1,19 @@
 -- The sampler of two thresholds, and that it draws by the rule of the two thresholds.
-use mathlib.Core.Path.{_≡_, refl, sym, ap, fun-ext}
+use mathlib.Core.Path.{_≡_, refl, sym, ap}
 use mathlib.Core.Bool.{Bool, true, false, not, cond, _&&_, and-eq-true-iff, true≢false}
 use Prim.Native.Nat.{ℕ, _+_, _-_, _^_, _<_, _≤_}
 use native.Mathlib.Omega.{arith}
-use lib.Dec.{ltb, eqb}
+use lib.Dec.{eqb}
 use lib.IntN.{pos}
-use borrow.Author.Tests.{ltb-true, ltb-false, eqb-true, eqb-false, eq-eqb, ne-eqb, not-true}
+use borrow.Author.Tests.{eqb-true, eqb-false, eq-eqb, ne-eqb, not-true}
 use Rattle.distr.specs.declared.threshold.Threshold.{Threshold}
 use Rattle.distr.specs.Rule.{constant, wideWords}
 use Rattle.distr.specs.Packed.{minusOne}
 use Rattle.distr.specs.Thresholds.{nonzeroEnd, ternaryValue, ternary}
 use Rattle.ternary.specs.declared.ternary.TernaryValue.the-variants.{MinusOne, Zero, One}
-use Rattle.ternary.specs.declared.ternary.TernarySampler.the-variants.{Constant, Nonzero, General}
+use Rattle.ternary.specs.declared.ternary.TernaryEnds.the-variants.{Constant, Nonzero, General}
 use Rattle.words.specs.Reading.{thresholdValue}
-use Rattle.ternary.specs.Sampler.{endsValue, samplerOf, samplerRule}
+use Rattle.ternary.specs.Sampler.{samplerOf, samplerRule}
 
 -- the end of the nonzero words is 0
 abbrev nothing : Threshold → Threshold → Bool
@@ -72,26 +72,16 @@ module _ (n p : Threshold) (part : n .full ≡ false) where
       )
       (ap (General (n .below)) (sym end))
 
--- ends in order give the value of thresholds
-ends-in-order : (N E w : ℕ) → N ≤ E → endsValue N E w ≡ ternaryValue N E w
-ends-in-order N E w h = go (ltb w N) (ltb w E) refl refl
-  where
-    go : (a b : Bool) → ltb w N ≡ a → ltb w E ≡ b → cond a (cond b minusOne (pos 1)) (cond b (pos 1) (pos 0)) ≡ cond a minusOne (cond b (pos 1) (pos 0))
-    go true true p q = refl
-    go true false p q = absurd (omega (arith, ltb-true w N p, ltb-false w E q))
-    go false true p q = refl
-    go false false p q = refl
-
 -- the sampler of two thresholds draws by their rule
-pub sampler-rule : (N P n : ℕ) → N ≤ 2 ^ 64 → samplerRule (samplerOf N P) n ≡ ternary N P n
+pub sampler-rule : (N P n : ℕ) → samplerRule (samplerOf N P) n ≡ ternary N P n
 unfolding samplerOf samplerRule
-sampler-rule N P n h = go (eqb N (2 ^ 64)) (eqb E 0) (eqb P (2 ^ 64)) (eqb E (2 ^ 64)) refl
+sampler-rule N P n = go (eqb N (2 ^ 64)) (eqb E 0) (eqb P (2 ^ 64)) (eqb E (2 ^ 64)) refl
   where
     E : ℕ
     E = nonzeroEnd N P
 
-    values : (end : ℕ) → end ≡ E → wideWords n (endsValue N end) ≡ wideWords n (ternaryValue N E)
-    values end e = rw e (ap (wideWords n) (fun-ext (λ w. ends-in-order N E w (omega arith))))
+    values : (end : ℕ) → end ≡ E → wideWords n (ternaryValue N end) ≡ wideWords n (ternaryValue N E)
+    values end e = ap (λ (k : ℕ). wideWords n (ternaryValue N k)) e
 
     go : (a b c d : Bool) → eqb E (2 ^ 64) ≡ d
         → samplerRule (cond a (Constant MinusOne) (cond b (Constant Zero) (cond c (Constant One) (cond d (Nonzero N) (General N E))))) n

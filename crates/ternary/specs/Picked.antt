@@ -1,4 +1,4 @@
--- One 64-bit word an element, the element taken from a table by two ends: what the loops of this crate do.
+-- One 64-bit word an element, the element taken from a table by two ends: what the loops do.
 use Prim.Native.Nat.{ℕ, _+_}
 use mathlib.Core.List.{List}
 use lib.Dec.{leb}

@@ -1,3 +1,3 @@
-// `Ternary`: coefficients by two thresholds of 64-bit words.
-mod ends;
+// Inner crate of primus_distr. `Ternary`: what the draws by two thresholds of 64-bit words share, whatever their output holds.
+pub mod ends;
 pub mod ternary;

@@ -1,14 +1,9 @@
-// `Ternary`: -1, 0 and 1 by two thresholds.
-use crate::ends;
-use distr::answer::Answer;
+// `Ternary`: the ends of two thresholds, and what they ask for.
 use distr::threshold::Threshold;
 ghost use mathlib.Core.Path.{_≡_};
-ghost use mathlib.Core.List.{map};
-ghost use lib.ListN.{length};
-ghost use Rattle.distr.specs.Draw.{outcome, ruleDraw};
-ghost use Rattle.distr.specs.Encoding.{signedWith, encodeWith};
+ghost use Prim.Native.Nat.{max};
 ghost use Rattle.words.specs.Reading.{thresholdValue};
-ghost use Rattle.ternary.specs.Sampler.{valueOf, samplerOf, samplerRule, planOf};
+ghost use Rattle.ternary.specs.Sampler.{samplerOf, planOf};
 
 // A value that needs no words.
 pub enum TernaryValue {
@@ -17,8 +12,8 @@ pub enum TernaryValue {
     One,
 }
 
-// Cumulative thresholds of three outcomes. The ends that a u64 cannot hold are variants of their own.
-pub enum TernarySampler {
+// Cumulative ends of three outcomes, the Rust's `TernarySampler`. The ends that a u64 cannot hold are variants of their own.
+pub enum TernaryEnds {
     // One value for every coefficient, and no word read.
     Constant(TernaryValue),
     // -1 for a 64-bit word below negative_end, else 1.
@@ -27,23 +22,30 @@ pub enum TernarySampler {
     General { negative_end: u64, nonzero_end: u64 },
 }
 
-// What a sampler does, whatever the type of its output. Where it reads words, one below both ends gives -1, one below one of them
+// What the ends ask for, whatever the type of the output. Where it reads words, one below both ends gives -1, one below one of them
 // `between`, one below neither `above`, each 0 or 1; where it reads none, every coefficient is the constant.
-struct Plan {
-    reads: bool,
-    constant: TernaryValue,
-    between: u32,
-    above: u32,
-    first_end: u64,
-    second_end: u64,
+pub struct Plan {
+    pub reads: bool,
+    pub constant: TernaryValue,
+    pub between: u32,
+    pub above: u32,
+    pub first_end: u64,
+    pub second_end: u64,
 }
 
-// The plan of each kind of sampler.
-fn plan_of(sampler: TernarySampler) -> Plan
-    ensures { λ r. ⌜ r ≡ planOf sampler ⌝ }
+// The larger of two ends.
+fn larger(a: u64, b: u64) -> u64
+    ensures { λ r. ⌜ r ≡ max a b ⌝ }
 {
-    match sampler {
-        TernarySampler::Constant(value) => Plan {
+    if a < b { b } else { a }
+}
+
+// The plan of each kind of ends. Where the nonzero end is below the negative one no word is 1, so the second end is the larger.
+pub fn plan_of(ends: TernaryEnds) -> Plan
+    ensures { λ r. ⌜ r ≡ planOf ends ⌝ }
+{
+    match ends {
+        TernaryEnds::Constant(value) => Plan {
             reads: false,
             constant: value,
             between: 0,
@@ -51,7 +53,7 @@ fn plan_of(sampler: TernarySampler) -> Plan
             first_end: 0,
             second_end: 0,
         },
-        TernarySampler::Nonzero { negative_end } => Plan {
+        TernaryEnds::Nonzero { negative_end } => Plan {
             reads: true,
             constant: TernaryValue::Zero,
             between: 0,
@@ -59,7 +61,7 @@ fn plan_of(sampler: TernarySampler) -> Plan
             first_end: negative_end,
             second_end: negative_end,
         },
-        TernarySampler::General {
+        TernaryEnds::General {
             negative_end,
             nonzero_end,
         } => Plan {
@@ -68,119 +70,31 @@ fn plan_of(sampler: TernarySampler) -> Plan
             between: 1,
             above: 0,
             first_end: negative_end,
-            second_end: nonzero_end,
+            second_end: larger(negative_end, nonzero_end),
         },
     }
 }
 
-// A value with the caller's encoding of -1.
-fn encoded_i64(value: TernaryValue, minus_one: i64) -> i64
-    ensures { λ r. ⌜ r ≡ signedWith «minus_one» (valueOf value) ⌝ }
+// The ends of the thresholds of -1 and 1. The ends are judged here, so that the loops compare u64 alone.
+pub fn from_thresholds(negative: Threshold, positive: Threshold) -> TernaryEnds
+    ensures { λ r. ⌜ r ≡ samplerOf (thresholdValue negative) (thresholdValue positive) ⌝ }
 {
-    match value {
-        TernaryValue::MinusOne => minus_one,
-        TernaryValue::Zero => 0,
-        TernaryValue::One => 1,
+    if negative.full {
+        return TernaryEnds::Constant(TernaryValue::MinusOne);
     }
-}
-
-// A value with the caller's encoding of -1.
-fn encoded_u64(value: TernaryValue, minus_one: u64) -> u64
-    ensures { λ r. ⌜ r ≡ encodeWith «minus_one» (valueOf value) ⌝ }
-{
-    match value {
-        TernaryValue::MinusOne => minus_one,
-        TernaryValue::Zero => 0,
-        TernaryValue::One => 1,
+    if !positive.full & (negative.below == 0) & (positive.below == 0) {
+        return TernaryEnds::Constant(TernaryValue::Zero);
     }
-}
-
-impl TernarySampler {
-    // The sampler of the thresholds of -1 and 1. The ends are judged here, so that the loops compare u64 alone.
-    pub fn from_thresholds(negative: Threshold, positive: Threshold) -> TernarySampler
-        ensures { λ r. ⌜ r ≡ samplerOf (thresholdValue negative) (thresholdValue positive) ⌝ }
-    {
-        if negative.full {
-            return TernarySampler::Constant(TernaryValue::MinusOne);
-        }
-        if !positive.full & (negative.below == 0) & (positive.below == 0) {
-            return TernarySampler::Constant(TernaryValue::Zero);
-        }
-        if positive.full {
-            return TernarySampler::Constant(TernaryValue::One);
-        }
-        if 0xffff_ffff_ffff_ffff - negative.below < positive.below {
-            return TernarySampler::Nonzero {
-                negative_end: negative.below,
-            };
-        }
-        TernarySampler::General {
+    if positive.full {
+        return TernaryEnds::Constant(TernaryValue::One);
+    }
+    if 0xffff_ffff_ffff_ffff - negative.below < positive.below {
+        return TernaryEnds::Nonzero {
             negative_end: negative.below,
-            nonzero_end: negative.below + positive.below,
-        }
+        };
     }
-
-    // Draws every coefficient, -1 by the caller's encoding; a constant reads nothing.
-    pub fn sample_to_i64(
-        self,
-        output: &mut [i64],
-        minus_one: i64,
-        words: &[u32],
-        place: usize,
-    ) -> Answer
-        ensures { λ r. ⌜ outcome r (now (output .exit)) ≡
-            ruleDraw (map (signedWith «minus_one»)) 0 (samplerRule self (length (now (output .entry)))) (now (words .entry)) place (now (output .entry)) ⌝ }
-    {
-        let plan = plan_of(self);
-        let answer = wide_words::answer_of(0, plan.reads, words.len(), place, output.len());
-        if answer.number == 23 {
-            fill::clear_i64(output);
-            return answer;
-        }
-        if answer.number != 0 {
-            return answer;
-        }
-        if !plan.reads {
-            let value = plan.constant;
-            fill::fill_i64(output, encoded_i64(value, minus_one));
-            return answer;
-        }
-        let values: [i64; 3] = [minus_one, plan.between as i64, plan.above as i64];
-        let low = plan.first_end;
-        let high = plan.second_end;
-        ends::pick_i64(output, &values, low, high, words, place);
-        answer
-    }
-
-    // Draws every coefficient, -1 by the caller's encoding; a constant reads nothing.
-    pub fn sample_to_u64(
-        self,
-        output: &mut [u64],
-        minus_one: u64,
-        words: &[u32],
-        place: usize,
-    ) -> Answer
-        ensures { λ r. ⌜ outcome r (now (output .exit)) ≡
-            ruleDraw (map (encodeWith «minus_one»)) 0 (samplerRule self (length (now (output .entry)))) (now (words .entry)) place (now (output .entry)) ⌝ }
-    {
-        let plan = plan_of(self);
-        let answer = wide_words::answer_of(0, plan.reads, words.len(), place, output.len());
-        if answer.number == 23 {
-            fill::clear_u64(output);
-            return answer;
-        }
-        if answer.number != 0 {
-            return answer;
-        }
-        if !plan.reads {
-            let value = plan.constant;
-            fill::fill_u64(output, encoded_u64(value, minus_one));
-            return answer;
-        }
-        let values: [u64; 3] = [minus_one, plan.between as u64, plan.above as u64];
-        let low = plan.first_end;
-        let high = plan.second_end;
-        ends::pick_u64(output, &values, low, high, words, place);
-        answer
+    TernaryEnds::General {
+        negative_end: negative.below,
+        nonzero_end: negative.below + positive.below,
     }
 }

@@ -1,4 +1,5 @@
-// Draws of one 64-bit word a coefficient: what a draw answers is known before its words are looked at, whatever its output holds.
+// Inner crate of primus_distr: draws of one 64-bit word a coefficient. What a draw answers is known before its words are looked at, whatever its
+// output holds.
 use distr::answer::Answer;
 ghost use mathlib.Core.Path.{_≡_};
 ghost use Rattle.wide_words.specs.Answering.{answerOf};

@@ -1,10 +1,11 @@
-// Lent words in place of a random source: each function reads from a place of the words and hands back the value with the place after it.
+// An inner crate of the library primus_distr: lent words in place of a random source. Each function reads from a place of the words and
+// hands back the value with the place after it.
 use distr::threshold::Threshold;
 ghost use mathlib.Core.Path.{_≡_};
 ghost use Prim.Native.Nat.{_%_, _<_};
 ghost use lib.ListN.{length, drop};
-ghost use Rattle.distr.specs.Words.{word, wide, choose, coin, chance};
-ghost use Rattle.words.specs.Reading.{taken, told, thresholdValue};
+ghost use Rattle.distr.specs.Words.{word, wide, choose, coin};
+ghost use Rattle.words.specs.Reading.{taken, told, toldChance};
 
 // A value and the place after the words that gave it.
 pub enum Taken {
@@ -104,17 +105,14 @@ pub fn random_bool(words: &[u32], place: usize) -> Told
     }
 }
 
-// Yes for a 64-bit word below the threshold. The full threshold says yes and reads nothing.
+// Yes for a 64-bit word below the threshold. The full threshold says yes and hands back the same place, also one past the end.
 pub fn bernoulli(words: &[u32], place: usize, threshold: Threshold) -> Told
-    ensures { λ r. ⌜ r ≡ told (length (now (words .entry))) (chance (thresholdValue threshold) (drop place (now (words .entry)))) ⌝ }
+    ensures { λ r. ⌜ r ≡ toldChance (now (words .entry)) place threshold ⌝ }
 {
     let full = threshold.full;
     let below = threshold.below;
     if full {
-        if place < words.len() {
-            return Told::Yes { place };
-        }
-        return Told::Yes { place: words.len() };
+        return Told::Yes { place };
     }
     match next_u64(words, place) {
         Taken::Got {

@@ -10,7 +10,7 @@ use lib.ListN.{length, getD}
 use lib.IntN.{ℤ}
 use lib.Ieee.{Float, le}
 use Rattle.distr.specs.Words.{Read, got, short, mapRead, bindRead, word, wide, choose, coin, chance}
-use Rattle.distr.specs.Gaussian.{signed}
+use Rattle.distr.specs.Gaussian.{withSign}
 use Rattle.distr.specs.Layered.{Layers, layerCount, x, float, accepts, zeroThreshold, judge, Tried, kept, rejected, try, orElse, tries, layeredOne}
 use Rattle.ziggurat.specs.Sampling.{Proposed, propose}
 
@@ -125,7 +125,7 @@ module _ (deviation : Float) (t : Layers) where
 
   -- a try in two halves: what is proposed, and its judging
   abbrev verdict : Proposed → List ℕ → Read Tried
-  verdict p ws = mapRead (λ passed. cond passed (kept (signed (p .positive) (p .magnitude))) rejected) (judge deviation t (p .layer) (p .magnitude) ws)
+  verdict p ws = mapRead (λ passed. cond passed (kept (withSign (p .positive) (p .magnitude))) rejected) (judge deviation t (p .layer) (p .magnitude) ws)
 
   abbrev proposal : ℕ → Bool → ℕ → Proposed
   proposal chosen positive m = record { layer = chosen + 1; positive = positive; magnitude = m }
@@ -164,7 +164,7 @@ module _ (deviation : Float) (t : Layers) where
     module _ (p : Proposed) (rest : List ℕ) (proposed : propose (t .endpoints) ws ≡ got p rest) where
       judged : (r : Read Bool) → judge deviation t (p .layer) (p .magnitude) rest ≡ r
           → layeredOne deviation t ws
-          ≡ orElse (mapRead (λ passed. cond passed (kept (signed (p .positive) (p .magnitude))) rejected) r) (layeredOne deviation t)
+          ≡ orElse (mapRead (λ passed. cond passed (kept (withSign (p .positive) (p .magnitude))) rejected) r) (layeredOne deviation t)
       unfolding bindRead
       judged r e = one-try ws ∙ ap (λ (q : Read Tried). orElse q (layeredOne deviation t)) (try-halves ws ∙ rw (proposed, e))
 
@@ -173,7 +173,7 @@ module _ (deviation : Float) (t : Layers) where
       none-judged e = judged short e
 
       pub one-judged : (passed : Bool) (later : List ℕ) → judge deviation t (p .layer) (p .magnitude) rest ≡ got passed later
-          → layeredOne deviation t ws ≡ cond passed (got (signed (p .positive) (p .magnitude)) later) (layeredOne deviation t later)
+          → layeredOne deviation t ws ≡ cond passed (got (withSign (p .positive) (p .magnitude)) later) (layeredOne deviation t later)
       unfolding orElse mapRead
       one-judged true later e = judged (got true later) e
       one-judged false later e = judged (got false later) e

@@ -12,7 +12,7 @@ use lib.ListN.{length, drop, set, replicate}
 use lib.IntN.{ℤ, pos}
 use lib.Ieee.{Float}
 use Rattle.distr.specs.Words.{Read, got, short}
-use Rattle.distr.specs.Gaussian.{signed}
+use Rattle.distr.specs.Gaussian.{withSign}
 use Rattle.distr.specs.Layered.{Layers, layerTables, zeroThreshold, judge, layeredOne, layered}
 use Rattle.distr.specs.Draw.{Outcome, settled}
 use Rattle.distr.specs.declared.gaussian_parameters.GaussianParameters.{GaussianParameters}
@@ -158,10 +158,10 @@ module _ {A : Type 0} {g : Given A} (t : Turn g) where
         by-side (inl (e, p)) = rw (e, p, add-zero (tried .place))
         by-side (inr (e, r, j, p)) = rw (e, p, j)
 
-    pub turned : (passed : Bool) → Came g tried inside passed → (a : A) → a ≡ g .put (signed (tried .positive) (tried .magnitude)) → Turned passed after a
+    pub turned : (passed : Bool) → Came g tried inside passed → (a : A) → a ≡ g .put (withSign (tried .positive) (tried .magnitude)) → Turned passed after a
     turned passed came a s = (
       omega (arith, ready .reads .sound .1, ready .next),
-      filled-turn (g .put) (one g) (g .words) (g .place) (g .output) (t .i) (t .at) after (t .out) a (signed (tried .positive) (tried .magnitude)) passed
+      filled-turn (g .put) (one g) (g .words) (g .place) (g .output) (t .i) (t .at) after (t .out) a (withSign (tried .positive) (tried .magnitude)) passed
           (t .more) (t .held)
           (one-judged (g .deviation) (g .layers) (drop (t .at) (g .words)) _ _ (sym (ready .reads .reads)) passed (drop after (g .words)) (judged passed came))
           (ready .within) s,

@@ -1,5 +1,2 @@
-// The layered Gaussian: the draws by its lent tables.
-pub mod encoded;
-mod layer;
-mod sampling;
-pub mod signed;
+// Inner crate of primus_distr: what the layered Gaussian draws share, whatever their output holds.
+pub mod sampling;

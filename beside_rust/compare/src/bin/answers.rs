@@ -1,5 +1,5 @@
 //! Writes the fixed list of the Rust's answers into a folder: a file for each family, for a Gaussian one for each support M.
-//! README.md states the format.
+//! `crates/rust_answers/README.md` states the format.
 
 use std::{env, fmt::Write, fs, path::Path};
 

@@ -1,6 +1,6 @@
--- Whether making gives a sampler: making its eta again gives its mask.
+-- Whether making gives these parameters: making the eta again gives the mask.
 use borrow.Author.Needs.{needs}
-use Rattle.centered_binomial.proofs.Samplers.{made-test}
+use Rattle.centered_binomial.proofs.Made.{made-test}
 use Rattle.centered_binomial.proofs.is_made.Statement.{statement}
 use Rattle.centered_binomial.proofs.is_made.Tie as tie
 
@@ -8,7 +8,7 @@ new-requires : tie.Need-new-requires
 new-requires c κs = search needs
 
 returns : tie.Need-returns
-returns c = rw (c .before .before .before .new .ensures) (made-test (c .before .before .before .before .args .sampler))
+returns c = rw (c .before .before .before .new .ensures) (made-test (c .before .before .before .before .args .parameters))
 
 pub is-made-spec : {M : Type 1} → statement M
 is-made-spec = tie.close (tie.spec new-requires returns)

@@ -13,7 +13,7 @@ has-shape-requires : tie.Need-has-shape-requires
 has-shape-requires c κs = search needs
 
 -- a shape that holds passes
-shaped : (c : tie.Then1) → let a = c .before .before .before .args in shapeNumber (a .n) (a .count) (length (a .moduli .now)) ≡ 0
+shaped : (c : tie.Then1) → let a = c .before .before .before .args in shapeNumber (a .n) (a .coefficient-count) (length (a .moduli .now)) ≡ 0
 shaped c = shape-good (c .before .before .before .args .n) _ _ (omega arith) (sym (c .before .has-shape .ensures) ∙ c .if1 .taken)
 
 returns : tie.Need-returns

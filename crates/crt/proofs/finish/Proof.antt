@@ -1,14 +1,15 @@
--- `finish` spreads the rows or writes zeros, by the answer's number.
+-- `finish` spreads the rows, writes zeros or leaves the output, by the answer's number.
+use mathlib.Core.Path.{refl}
 use borrow.Author.Needs.{needs}
-use Rattle.crt.proofs.Finishing.{finished-rows, finished-zeros}
+use Rattle.crt.proofs.Finishing.{finished-rows, finished-zeros, finished-kept}
 use Rattle.crt.proofs.finish.Statement.{statement}
 use Rattle.crt.proofs.finish.Tie as tie
 
 spread-rows-requires : tie.Need-spread-rows-requires
 spread-rows-requires c κs = search needs
 
-clear-u64-requires : tie.Need-clear-u64-requires
-clear-u64-requires c κs = search needs
+clear-requires : tie.Need-clear-requires
+clear-requires c κs = search needs
 
 same-length : tie.Need-same-length
 same-length c = search needs
@@ -24,7 +25,19 @@ same-length-2 c = search needs
 returns-2 : tie.Need-returns-2
 returns-2 c =
     let called = c .before .before in
-    finished-zeros _ _ _ _ (called .before .before .if1 .left) (called .clear-u64 .ensures)
+    finished-zeros _ _ _ _ (called .before .before .if2 .taken) (called .clear .ensures)
+
+returns-3 : tie.Need-returns-3
+returns-3 c = finished-kept _ _ _ _ (c .before .if1 .left) (c .if2 .left) refl
 
 pub finish-spec : {M : Type 1} → statement M
-finish-spec = tie.close (tie.spec spread-rows-requires clear-u64-requires same-length returns same-length-2 returns-2)
+finish-spec =
+    tie.close
+    (tie.spec
+    spread-rows-requires
+    clear-requires
+    same-length
+    returns
+    same-length-2
+    returns-2
+    returns-3)

@@ -6,7 +6,7 @@ use Rattle.crt.proofs.has_shape.Statement.{statement}
 use Rattle.crt.proofs.has_shape.Tie as tie
 
 returns : tie.Need-returns
-returns c = let a = c .before .args in shape-none (a .n) (a .count) (a .rows) (c .if1 .taken)
+returns c = let a = c .before .args in shape-none (a .n) (a .coefficient-count) (a .rows) (c .if1 .taken)
 
 div-result : tie.Need-div-result
 div-result c = search needs
@@ -15,7 +15,7 @@ rem-result : tie.Need-rem-result
 rem-result c = search needs
 
 returns-2 : tie.Need-returns-2
-returns-2 c = let a = c .before .args in shape-divided (a .n) (a .count) (a .rows) (omega arith)
+returns-2 c = let a = c .before .args in shape-divided (a .n) (a .coefficient-count) (a .rows) (omega arith)
 
 pub has-shape-spec : {M : Type 1} → statement M
 has-shape-spec = tie.close (tie.spec returns div-result rem-result returns-2)

@@ -19,20 +19,20 @@ abbrev μ-loop : tie.MeasureT-loop
 μ-loop output₀ count moduli n rows last at₀ i₀ output at i = rows - i
 
 returns : tie.Need-returns Inv-loop μ-loop
-returns c = let a = c .before .before .before .args in spread-no-moduli (a .output .now) (a .count) (a .moduli .now) (c .if1 .taken)
+returns c = let a = c .before .before .before .args in spread-no-moduli (a .output .now) (a .coefficient-count) (a .moduli .now) (c .if1 .taken)
 
 has-shape-requires : tie.Need-has-shape-requires Inv-loop μ-loop
 has-shape-requires c κs = search needs
 
 -- the shape, where the test held
 shaped : (c : tie.Then2 Inv-loop μ-loop) → let a = c .before .before .before .before .before .args in
-    length (a .output .now) ≡ a .count * length (a .moduli .now)
+    length (a .output .now) ≡ a .coefficient-count * length (a .moduli .now)
 shaped c = eqb-true _ _ (sym (c .before .has-shape .ensures) ∙ c .if2 .taken)
 
 sub-last : tie.Need-sub-last Inv-loop μ-loop
 sub-last c =
     let a = c .before .before .before .before .before .args in
-    omega (arith, row-inside (length (a .output .now)) (a .count) (length (a .moduli .now)) 0 (shaped c) (omega arith))
+    omega (arith, row-inside (length (a .output .now)) (a .coefficient-count) (length (a .moduli .now)) 0 (shaped c) (omega arith))
 
 loop-holds : tie.Need-loop-holds Inv-loop μ-loop
 loop-holds c = (omega arith, refl, sym (zero-mul _), shaped c, spread-none _ _ _ _)
@@ -45,11 +45,11 @@ shared-slice-read-modulus c = omega arith
 
 -- the row of this turn lies within the output
 room : (c : tie.In-loop Inv-loop μ-loop) → let a = c .before .before .before .before .before .before .before .args in
-    c .before .loop .at + a .count ≤ length (a .output .now)
+    c .before .loop .at + a .coefficient-count ≤ length (a .output .now)
 room c =
     let a = c .before .before .before .before .before .before .before .args in
     let loop = c .before .loop in
-    rw (loop .inv .2) (row-inside (length (a .output .now)) (a .count) (length (a .moduli .now)) (loop .i) (loop .inv .3) (c .loop-test .taken))
+    rw (loop .inv .2) (row-inside (length (a .output .now)) (a .coefficient-count) (length (a .moduli .now)) (loop .i) (loop .inv .3) (c .loop-test .taken))
 
 make-row-requires : tie.Need-make-row-requires Inv-loop μ-loop
 make-row-requires c κs = omega (arith, room (c .before .before))
@@ -83,7 +83,7 @@ returns-2 c = spread-all _ _ _ _ (c .before .loop .inv .4) (c .loop-test .left)
 returns-3 : tie.Need-returns-3 Inv-loop μ-loop
 returns-3 c =
     let a = c .before .before .before .before .before .args in
-    spread-other (a .output .now) (a .count) (a .moduli .now) (sym (c .before .has-shape .ensures) ∙ c .if2 .left)
+    spread-other (a .output .now) (a .coefficient-count) (a .moduli .now) (sym (c .before .has-shape .ensures) ∙ c .if2 .left)
 
 pub spread-rows-spec : {M : Type 1} → statement M
 spread-rows-spec =

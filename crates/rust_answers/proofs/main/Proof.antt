@@ -5,10 +5,10 @@ use Rattle.rust_answers.proofs.main.Statement.{statement}
 use Rattle.rust_answers.proofs.main.Tie as tie
 
 abbrev Inv-loop : tie.InvT-loop
-Inv-loop count total₀ i₀ t4 total i = Unit {0}
+Inv-loop count total₀ i₀ t4 t5 total i = Unit {0}
 
 abbrev μ-loop : tie.MeasureT-loop
-μ-loop count total₀ i₀ t4 total i = count - i
+μ-loop count total₀ i₀ t4 t5 total i = count - i
 
 arg-count-requires : tie.Need-arg-count-requires Inv-loop μ-loop
 arg-count-requires c κs = search needs
@@ -40,6 +40,12 @@ slice-aggregate-summary c = search needs
 summary-requires : tie.Need-summary-requires Inv-loop μ-loop
 summary-requires c κs = search needs
 
+slice-aggregate-judge : tie.Need-slice-aggregate-judge Inv-loop μ-loop
+slice-aggregate-judge c = search needs
+
+judge-requires : tie.Need-judge-requires Inv-loop μ-loop
+judge-requires c κs = search needs
+
 returns : tie.Need-returns Inv-loop μ-loop
 returns c = search needs
 
@@ -59,4 +65,6 @@ main-spec =
     loop-again
     slice-aggregate-summary
     summary-requires
+    slice-aggregate-judge
+    judge-requires
     returns)

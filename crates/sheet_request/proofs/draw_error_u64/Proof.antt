@@ -2,8 +2,7 @@
 use mathlib.Core.Path.{_∙_}
 use mathlib.Core.Bool.{Bool}
 use Rattle.distr.specs.Distribution.{Distr}
-use Rattle.distr.specs.Draw.{encodedDraw}
-use Rattle.sheet_request.specs.Request.{noTables}
+use Rattle.distr.specs.Draw.{noTables, encodedDraw, encodedAtOnce}
 use Rattle.error_sampler.proofs.Calls.{made-refused, made-drawn}
 use borrow.Author.Needs.{needs}
 use Rattle.sheet_request.proofs.draw_error_u64.Statement.{statement}
@@ -13,6 +12,7 @@ try-new-requires : tie.Need-try-new-requires
 try-new-requires c κs = search needs
 
 returns : tie.Need-returns
+unfolding encodedAtOnce
 returns c =
     made-refused (c .before .before .before .before .args .distr) (c .before .try-new .result) (c .before .try-new .ensures) 0 _ _ (c .if1 .taken)
 
@@ -35,6 +35,7 @@ same-length : tie.Need-same-length
 same-length c = search needs
 
 returns-2 : tie.Need-returns-2
+unfolding encodedAtOnce
 returns-2 c =
     let start = c .before .before .before .before .before .before .before .before .before .before .before in
     let made = c .before .before .before .before .before .before .before .before .try-new in

@@ -1,4 +1,5 @@
 -- `words::next_u32` hands back the word at the place and the place after it, or `Short` past the end.
+use Prim.Native.Nat.{_+_}
 use native.Mathlib.Numerals.{add-one}
 use native.Mathlib.Omega.{arith}
 use borrow.Author.Needs.{needs}
@@ -21,7 +22,8 @@ add-next c = search needs
 returns : tie.Need-returns
 returns c =
     let a = c .before .before .args in
-    rw (add-one (a .place)) (taken-at (a .words .now) _ _ _ (omega arith) (word-there (a .words .now) (a .place) (c .before .if1 .taken)))
+    taken-at (a .words .now) (a .place + 1) _ _ (omega arith)
+    (rw (add-one (a .place)) (word-there (a .words .now) (a .place) (c .before .if1 .taken)))
 
 returns-2 : tie.Need-returns-2
 returns-2 c =

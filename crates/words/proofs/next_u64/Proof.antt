@@ -39,7 +39,9 @@ cast-high : tie.Need-cast-high
 cast-high c = omega (arith, c .shared-slice-known2 .given (c .before .before .before .before .args .place + 1))
 
 mul-t12 : tie.Need-mul-t12
-mul-t12 c = omega (arith, c .shared-slice-known2 .given (c .before .before .before .before .args .place + 1))
+mul-t12 c =
+    let at = c .before .before .before .before .args .place in
+    omega (arith, c .before .shared-slice-known .given at, c .shared-slice-known2 .given (at + 1))
 
 add-t13 : tie.Need-add-t13
 add-t13 c =
@@ -52,8 +54,8 @@ add-t7 c = search needs
 returns-3 : tie.Need-returns-3
 returns-3 c =
     let a = c .before .before .before .before .args in
-    rw (add-two (a .place), add-one (a .place))
-    (taken-at (a .words .now) _ _ _ (omega arith) (wide-there (a .words .now) (a .place) (omega arith)))
+    taken-at (a .words .now) (a .place + 2) _ _ (omega arith)
+    (rw (add-two (a .place), add-one (a .place)) (wide-there (a .words .now) (a .place) (omega arith)))
 
 pub next-u64-spec : {M : Type 1} → statement M
 next-u64-spec =

@@ -36,7 +36,7 @@ returns c =
     let a = c .before .before .before .before .before .before .before .before .before .before .before .before .before .before .before .args in
     let tables = lent (a .bounds .now) (a .endpoints .now) (a .heights .now) (a .curve .now) in
     c .before .before .sample-crt-to .ensures
-    ∙ told-draw (λ (made : Bool) (d : Distr). crtDraw made d tables (a .count) (a .moduli .now) (a .words .now) (a .place) (a .output .now))
+    ∙ told-draw (λ (made : Bool) (d : Distr). crtDraw made d tables (a .coefficient-count) (a .moduli .now) (a .words .now) (a .place) (a .output .now))
     (a .place) (a .output .now) (named (a .kind) (a .a) (a .b) (a .p) (a .q))
     (c .before .before .before .before .before .sampler .given .1) (c .before .before .before .before .before .before .before .make .ensures)
 
@@ -48,7 +48,7 @@ returns-2 c =
     let a = c .before .before .before .before .before .before .before .before .before .before .before .before .before .before .before .args in
     let tables = lent (a .bounds .now) (a .endpoints .now) (a .heights .now) (a .curve .now) in
     c .before .before .sample-crt-to2 .ensures
-    ∙ told-draw (λ (made : Bool) (d : Distr). crtDraw made d tables (a .count) (a .moduli .now) (a .words .now) (a .place) (a .output .now))
+    ∙ told-draw (λ (made : Bool) (d : Distr). crtDraw made d tables (a .coefficient-count) (a .moduli .now) (a .words .now) (a .place) (a .output .now))
     (a .place) (a .output .now) (named (a .kind) (a .a) (a .b) (a .p) (a .q))
     (c .before .before .before .before .before .sampler2 .given .1) (c .before .before .before .before .before .before .before .make .ensures)
 
@@ -56,7 +56,7 @@ returns-3 : tie.Need-returns-3
 returns-3 c =
     let a = c .before .before .before .before .before .before .before .before .before .before .before .args in
     let tables = lent (a .bounds .now) (a .endpoints .now) (a .heights .now) (a .curve .now) in
-    told-draw (λ (made : Bool) (d : Distr). crtDraw made d tables (a .count) (a .moduli .now) (a .words .now) (a .place) (a .output .now))
+    told-draw (λ (made : Bool) (d : Distr). crtDraw made d tables (a .coefficient-count) (a .moduli .now) (a .words .now) (a .place) (a .output .now))
     (a .place) (a .output .now) (named (a .kind) (a .a) (a .b) (a .p) (a .q))
     (c .before .number .given .1) (c .before .before .before .make .ensures)
 

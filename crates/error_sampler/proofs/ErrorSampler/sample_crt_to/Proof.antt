@@ -2,7 +2,7 @@
 use lib.ListN.{length}
 use Rattle.error_sampler.specs.Sampler.{isMade}
 use Rattle.error_sampler.proofs.Held.{held-fits}
-use Rattle.error_sampler.proofs.CrtDraws.{Ready, crt-refused, crt-ready, crt-table-kept, crt-finished}
+use Rattle.error_sampler.proofs.CrtDraws.{Ready, crt-refused, crt-ready, crt-finished}
 use borrow.Author.Needs.{needs}
 use Rattle.error_sampler.proofs.ErrorSampler.sample_crt_to.Statement.{statement}
 use Rattle.error_sampler.proofs.ErrorSampler.sample_crt_to.Tie as tie
@@ -13,7 +13,7 @@ crt-draw-number-requires c κs = search needs
 -- what the draw relies on, where the number is 0
 ready : (c : tie.Else1)
     → let a = c .before .before .before .before .before .before .before .before .before .args in
-    Ready (a .self .distribution) (isMade (a .self)) (a .self .method) (a .count) (a .moduli .now) (a .words .now) (a .place) (length (a .output .now))
+    Ready (a .self .distribution) (isMade (a .self)) (a .self .method) (a .coefficient-count) (a .moduli .now) (a .words .now) (a .place) (length (a .output .now))
 ready c =
     let top = c .before .before .before .before .before .before .before .before .before in
     let a = top .args in
@@ -28,44 +28,34 @@ returns c =
 last-row-requires : tie.Need-last-row-requires
 last-row-requires c κs = search needs
 
-mul-sample-residues : tie.Need-mul-sample-residues
-mul-sample-residues c = search needs
+mul-sample-to-with : tie.Need-mul-sample-to-with
+mul-sample-to-with c = search needs
 
-sub-sample-residues : tie.Need-sub-sample-residues
-sub-sample-residues c = search needs
+sub-sample-to-with : tie.Need-sub-sample-to-with
+sub-sample-to-with c = search needs
 
-part-sample-residues-start : tie.Need-part-sample-residues-start
-part-sample-residues-start c = search needs
+part-sample-to-with-start : tie.Need-part-sample-to-with-start
+part-sample-to-with-start c = search needs
 
-part-sample-residues-end : tie.Need-part-sample-residues-end
-part-sample-residues-end c = search needs
+part-sample-to-with-end : tie.Need-part-sample-to-with-end
+part-sample-to-with-end c = search needs
 
-sample-residues-requires : tie.Need-sample-residues-requires
-sample-residues-requires c κs = search needs
+sample-to-with-requires : tie.Need-sample-to-with-requires
+sample-to-with-requires c κs = search needs
+
+finish-requires : tie.Need-finish-requires
+finish-requires c κs = search needs
 
 same-length : tie.Need-same-length
 same-length c = search needs
 
 returns-2 : tie.Need-returns-2
 returns-2 c =
-    let drawn = c .before .before .before .before .before in
+    let back = c .before .before .before .before .before in
+    let drawn = back .before in
     let at = drawn .before .before in
-    crt-table-kept _ _ _ _ _ _ (ready (at .before)) _ (at .last-row .ensures) _ _ (c .before .before .before .before .output .given .0)
-    (drawn .sample-residues .ensures) (c .if2 .taken)
-
-finish-requires : tie.Need-finish-requires
-finish-requires c κs = search needs
-
-same-length-2 : tie.Need-same-length-2
-same-length-2 c = search needs
-
-returns-3 : tie.Need-returns-3
-returns-3 c =
-    let told = c .before .before .before .before in
-    let drawn = told .before .before .before .before .before in
-    let at = drawn .before .before in
-    crt-finished _ _ _ _ _ _ (ready (at .before)) _ (at .last-row .ensures) _ _ (told .before .before .before .before .output .given .0)
-    (drawn .sample-residues .ensures) (told .if2 .left) (c .before .before .finish .ensures)
+    crt-finished _ _ _ _ _ _ (ready (at .before)) _ (at .last-row .ensures) _ _ (back .output .given .0) (drawn .sample-to-with .ensures)
+    (c .before .before .finish .ensures)
 
 pub sample-crt-to-spec : {M : Type 1} → statement M
 sample-crt-to-spec =
@@ -74,13 +64,11 @@ sample-crt-to-spec =
     crt-draw-number-requires
     returns
     last-row-requires
-    mul-sample-residues
-    sub-sample-residues
-    part-sample-residues-start
-    part-sample-residues-end
-    sample-residues-requires
-    same-length
-    returns-2
+    mul-sample-to-with
+    sub-sample-to-with
+    part-sample-to-with-start
+    part-sample-to-with-end
+    sample-to-with-requires
     finish-requires
-    same-length-2
-    returns-3)
+    same-length
+    returns-2)

@@ -16,10 +16,10 @@ returns c =
     encoded-refused _ _ _ _ _ (a .self) (held-fits (a .self) _ (top .good .0)) (omega arith) (c .before .encoded-number .ensures) (c .if1 .taken)
 
 sub-minus-one : tie.Need-sub-minus-one
-sub-minus-one c = encoded-above _ _ _ _ _ (c .before .encoded-number .ensures) (c .if1 .left)
+sub-minus-one c = omega (arith, encoded-above _ _ _ _ _ (c .before .encoded-number .ensures) (c .if1 .left))
 
-sample-residues-requires : tie.Need-sample-residues-requires
-sample-residues-requires c κs = search needs
+sample-to-with-requires : tie.Need-sample-to-with-requires
+sample-to-with-requires c κs = search needs
 
 same-length : tie.Need-same-length
 same-length c = search needs
@@ -30,7 +30,7 @@ returns-2 c =
     let top = at .before .before .before .before .before .before .before .before in
     let a = top .args in
     encoded-drawn _ _ _ _ _ (a .self) (held-fits (a .self) _ (top .good .0)) (omega arith) (at .before .encoded-number .ensures) (at .if1 .left)
-    (c .before .before .sample-residues .ensures)
+    (c .before .before .sample-to-with .ensures)
 
 pub sample-encoded-to-spec : {M : Type 1} → statement M
 sample-encoded-to-spec =
@@ -39,6 +39,6 @@ sample-encoded-to-spec =
     encoded-number-requires
     returns
     sub-minus-one
-    sample-residues-requires
+    sample-to-with-requires
     same-length
     returns-2)

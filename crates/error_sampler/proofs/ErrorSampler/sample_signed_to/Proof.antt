@@ -19,8 +19,8 @@ returns c =
     let unmade : isMade (a .self) ≡ false = sym (c .before .is-made .ensures) ∙ denied _ (c .if1 .taken) in
     rw unmade (sym (signed-unmade _ _ _ _ _))
 
-sample-signed-requires : tie.Need-sample-signed-requires
-sample-signed-requires c κs = search needs
+sample-to-with-requires : tie.Need-sample-to-with-requires
+sample-to-with-requires c κs = search needs
 
 same-length : tie.Need-same-length
 same-length c = search needs
@@ -31,8 +31,8 @@ returns-2 c =
     let top = at .before .before .before .before .before .before .before in
     let a = top .args in
     signed-drawn (a .self) (held-fits (a .self) _ (top .good .0)) _ _ _ _
-    (sym (at .before .is-made .ensures) ∙ confirmed _ (at .if1 .left)) _ (c .before .sample-signed .ensures)
+    (sym (at .before .is-made .ensures) ∙ confirmed _ (at .if1 .left)) _ (c .before .sample-to-with .ensures)
 
 pub sample-signed-to-spec : {M : Type 1} → statement M
 sample-signed-to-spec =
-    tie.close (tie.spec is-made-requires returns sample-signed-requires same-length returns-2)
+    tie.close (tie.spec is-made-requires returns sample-to-with-requires same-length returns-2)

@@ -23,13 +23,13 @@ returns-3 c =
     tried-zero _ _ _ _ _ _ (at .before .before .state-number .ensures) (at .before .if1 .left) (at .if2 .left) _
     (c .before .is-binomial .ensures) (c .if3 .taken)
 
-validate-modulus-requires : tie.Need-validate-modulus-requires
-validate-modulus-requires c κs = search needs
+modulus-number-requires : tie.Need-modulus-number-requires
+modulus-number-requires c κs = search needs
 
 returns-4 : tie.Need-returns-4
 returns-4 c =
     let at = c .before .before .before in
-    c .validate-modulus .ensures
+    c .modulus-number .ensures
     ∙ tried-modulus _ _ _ _ _ _ (at .before .before .state-number .ensures) (at .before .if1 .left) (at .if2 .left) _
     (c .before .before .is-binomial .ensures) (c .before .if3 .left)
 
@@ -42,5 +42,5 @@ encoded-number-spec =
     returns-2
     is-binomial-requires
     returns-3
-    validate-modulus-requires
+    modulus-number-requires
     returns-4)

@@ -15,7 +15,7 @@ draw-number-requires c κs = search needs
 returns : tie.Need-returns
 returns c =
     let a = c .before .before .args in
-    number-by (a .count) (a .place) (a .n) _ (badWeight (a .first + a .second) (a .n)) (c .before .weight-number .ensures) (c .draw-number .ensures)
+    number-by (a .word-count) (a .place) (a .n) _ (badWeight (a .first + a .second) (a .n)) (c .before .weight-number .ensures) (c .draw-number .ensures)
 
 pub weight-number-spec : {M : Type 1} → statement M
 weight-number-spec = tie.close (tie.spec weight-number-requires draw-number-requires returns)

@@ -13,17 +13,17 @@ mul-value c = search needs
 element-copy-out-value : tie.Need-element-copy-out-value
 element-copy-out-value c = search needs
 
-fill-i64-requires : tie.Need-fill-i64-requires
-fill-i64-requires c κs = search needs
+fill-requires : tie.Need-fill-requires
+fill-requires c κs = search needs
 
 same-length : tie.Need-same-length
 same-length c = search needs
 
 returns : tie.Need-returns
 returns c =
-    c .before .fill-i64 .ensures
-    ∙ ap (replicate (length (c .before .before .before .before .args .out .now))) (toZ-ofZ w64 _ (record { sfits = c .before .before .before .value .given }))
+    let copied = c .before .before .before in
+    c .before .fill .ensures ∙ ap (replicate (length (copied .before .args .out .now))) (toZ-ofZ w64 _ (record { sfits = copied .value .given }))
 
 pub fill-with-spec : {M : Type 1} → statement M
 fill-with-spec =
-    tie.close (tie.spec mul-value element-copy-out-value fill-i64-requires same-length returns)
+    tie.close (tie.spec mul-value element-copy-out-value fill-requires same-length returns)

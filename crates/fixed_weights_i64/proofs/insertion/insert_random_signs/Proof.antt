@@ -1,20 +1,48 @@
 -- `insertion::insert_random_signs` inserts signs. The loop's invariant: what is read from the words left now, and from the signs at
 -- hand, is what is read from the words left at first. The measure is what is left of the output.
-use mathlib.Core.Path.{subst, _∙_}
+use mathlib.Core.Path.{_≡_, sym, _∙_}
 use Prim.Native.Nat.{_+_, _-_}
 use native.Mathlib.Omega.{arith}
 use borrow.Author.Needs.{needs}
+use lib.ListN.{length, drop}
 use lib.IntN.{pos}
-use Rattle.fixed_weights.specs.Inserting.{Drew, Draws}
+use Rattle.fixed_weights.specs.declared.choices.Signing.{Signing}
+use Rattle.fixed_weights.specs.declared.choices.Signing.the-variants.{Got, Short}
+use Rattle.fixed_weights.specs.Inserting.{signAndPlace, signing}
+use Rattle.fixed_weights.proofs.Signs.{drew}
 use Rattle.fixed_weights.proofs.SignTurns.{SignTurn, signs-start, signs-next, signs-short, signs-done}
 use Rattle.fixed_weights_i64.proofs.insertion.insert_random_signs.Statement.{statement}
 use Rattle.fixed_weights_i64.proofs.insertion.insert_random_signs.Tie as tie
 
 abbrev Inv-loop : tie.InvT-loop
-Inv-loop result₀ values count words place n i₀ at₀ signs₀ left₀ result i at signs left = SignTurn (pos 0) values words n count place i at signs left result
+Inv-loop output₀ values hamming-weight words place n i₀ at₀ signs₀ left₀ output i at signs left =
+    SignTurn (pos 0) values words n hamming-weight place i at signs left output
 
 abbrev μ-loop : tie.MeasureT-loop
-μ-loop result₀ values count words place n i₀ at₀ signs₀ left₀ result i at signs left = n - i
+μ-loop output₀ values hamming-weight words place n i₀ at₀ signs₀ left₀ output i at signs left = n - i
+
+-- the function's entry, from where the output is filled and from the loop's head
+abbrev entry : tie.After-fill-with Inv-loop μ-loop → tie.Start Inv-loop μ-loop
+entry filled = filled .before .before .before
+
+abbrev begun : tie.At-loop Inv-loop μ-loop → tie.Start Inv-loop μ-loop
+begun t = entry (t .before .before)
+
+-- r is what a turn draws
+abbrev Draws : tie.At-loop Inv-loop μ-loop → Signing → Type 0
+Draws t r =
+    let l = t .loop in
+    let words = begun t .args .words .now in
+    r ≡ signing (length words) (signAndPlace (l .i + 1) (l .signs) (l .left) (drop (l .at) words))
+
+-- the turn in which a sign and a place are handed back
+abbrev turn : tie.After-known-told Inv-loop μ-loop → tie.In-loop Inv-loop μ-loop
+turn d = d .before .before .before .before
+
+drawn : (d : tie.After-known-told Inv-loop μ-loop)
+    → let g = d .before .bit .given .0 in
+    Draws (turn d .before) (Got (g .0) (g .1 .0) (g .1 .1 .0) (g .1 .1 .1 .0) (g .1 .1 .1 .1 .0))
+drawn d = sym (d .before .bit .given .1) ∙ d .before .before .before .sign-and-place .ensures
 
 fill-with-requires : tie.Need-fill-with-requires Inv-loop μ-loop
 fill-with-requires c κs = search needs
@@ -23,29 +51,26 @@ sub-i : tie.Need-sub-i Inv-loop μ-loop
 sub-i c = omega arith
 
 loop-holds : tie.Need-loop-holds Inv-loop μ-loop
-loop-holds c = signs-start (c .before .before .before .before .pre .0) (c .before .before .before .before .pre .1) (c .before .fill-with .ensures)
+loop-holds c =
+    let filled = c .before in
+    let pre = entry filled .pre in
+    signs-start (pre .0) (pre .1) (filled .fill-with .ensures)
 
-add-signed-choice : tie.Need-add-signed-choice Inv-loop μ-loop
-add-signed-choice c = omega arith
+add-sign-and-place : tie.Need-add-sign-and-place Inv-loop μ-loop
+add-sign-and-place c = omega arith
 
-signed-choice-requires : tie.Need-signed-choice-requires Inv-loop μ-loop
-signed-choice-requires c κs = search needs
+sign-and-place-requires : tie.Need-sign-and-place-requires Inv-loop μ-loop
+sign-and-place-requires c κs = search needs
 
 enum-known-bit : tie.Need-enum-known-bit Inv-loop μ-loop
 enum-known-bit c = search needs
 
--- the sign and the place that were drawn, as the words have them
-drawn : (c : tie.After-known-told Inv-loop μ-loop)
-    → let l = c .before .before .before .before .before .loop in let g = c .before .bit .given .0 in
-    Drew (c .before .before .before .before .before .before .before .before .before .before .args .words .now) (l .at) (l .signs) (l .left) (l .i + 1) (g .0) (g .1 .0) (g .1 .1 .0) (g .1 .1 .1 .0) (g .1 .1 .1 .1 .0)
-drawn c =
-    let l = c .before .before .before .before .before .loop in
-    subst (Draws (c .before .before .before .before .before .before .before .before .before .before .args .words .now) (l .at) (l .signs) (l .left) (l .i + 1)) (c .before .bit .given .1) (c .before .before .before .signed-choice .ensures)
-
 insert-at-requires : tie.Need-insert-at-requires Inv-loop μ-loop
 insert-at-requires c κs =
-    let size = c .before .before .before .before .before .before .loop .inv .turn .size in
-    let d = drawn (c .before) in
+    let t = turn (c .before) .before in
+    let l = t .loop in
+    let size = l .inv .turn .size in
+    let d = drew (begun t .args .words .now) (l .i + 1) (l .at) (l .signs) (l .left) (drawn (c .before)) in
     (omega (arith, size), omega (arith, size, d .below), omega (arith, d .is-bit))
 
 add-i : tie.Need-add-i Inv-loop μ-loop
@@ -55,23 +80,34 @@ loop-less : tie.Need-loop-less Inv-loop μ-loop
 loop-less c = omega arith
 
 loop-again : tie.Need-loop-again Inv-loop μ-loop
-loop-again c = signs-next (c .before .before .before .before .before .before .before .before .loop .inv) (c .before .before .before .before .before .before .before .loop-test .taken) (drawn (c .before .before .before)) (c .before .insert-at .ensures)
+loop-again c =
+    let stored = c .before in
+    let d = stored .before .before in
+    signs-next (turn d .before .loop .inv) (turn d .loop-test .taken) (drawn d) (stored .insert-at .ensures)
 
 enum-told : tie.Need-enum-told Inv-loop μ-loop
 enum-told c = search needs
 
-clear-i64-requires : tie.Need-clear-i64-requires Inv-loop μ-loop
-clear-i64-requires c κs = search needs
+clear-requires : tie.Need-clear-requires Inv-loop μ-loop
+clear-requires c κs = search needs
+
+-- the turn in which a word is lacking
+abbrev last : tie.After-enum-told Inv-loop μ-loop → tie.In-loop Inv-loop μ-loop
+last d = d .before .before .before
+
+lacking : (d : tie.After-enum-told Inv-loop μ-loop) → Draws (last d .before) Short
+lacking d = sym (d .enum-told .given .1) ∙ d .before .before .sign-and-place .ensures
 
 same-length : tie.Need-same-length Inv-loop μ-loop
-same-length c = c .before .clear-i64 .kept .0 ∙ c .before .before .before .before .before .before .before .loop .inv .turn .size
+same-length c =
+    let cleared = c .before in
+    cleared .clear .kept .0 ∙ last (cleared .before .before) .before .loop .inv .turn .size
 
 returns : tie.Need-returns Inv-loop μ-loop
 returns c =
-    let l = c .before .before .before .before .before .before .before .loop in
-    signs-short (l .inv) (c .before .before .before .before .before .before .loop-test .taken)
-    (subst (Draws (c .before .before .before .before .before .before .before .before .before .before .before .before .args .words .now) (l .at) (l .signs) (l .left) (l .i + 1)) (c .before .before .before .enum-told .given .1) (c .before .before .before .before .before .signed-choice .ensures))
-    (c .before .clear-i64 .ensures)
+    let cleared = c .before in
+    let d = cleared .before .before in
+    signs-short (last d .before .loop .inv) (last d .loop-test .taken) (lacking d) (cleared .clear .ensures)
 
 same-length-2 : tie.Need-same-length-2 Inv-loop μ-loop
 same-length-2 c = c .before .loop .inv .turn .size
@@ -88,15 +124,15 @@ insert-random-signs-spec =
     fill-with-requires
     sub-i
     loop-holds
-    add-signed-choice
-    signed-choice-requires
+    add-sign-and-place
+    sign-and-place-requires
     enum-known-bit
     insert-at-requires
     add-i
     loop-less
     loop-again
     enum-told
-    clear-i64-requires
+    clear-requires
     same-length
     returns
     same-length-2

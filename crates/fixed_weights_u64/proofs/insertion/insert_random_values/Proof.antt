@@ -7,7 +7,8 @@ use borrow.Author.Needs.{needs}
 use lib.Dec.{ltb}
 use lib.ListN.{length, getD, drop}
 use Rattle.distr.specs.Words.{choose}
-use Rattle.words.specs.declared.Taken.the-variants.{Got}
+use Rattle.words.specs.declared.Taken.{Taken}
+use Rattle.words.specs.declared.Taken.the-variants.{Got, Short}
 use Rattle.words.specs.Reading.{taken}
 use Rattle.words.proofs.Taking.{chosen-below}
 use Rattle.fixed_weights.proofs.Turns.{cond-below, Inserted, inserted-start, inserted-next, plan-done, plan-short}
@@ -15,23 +16,45 @@ use Rattle.fixed_weights_u64.proofs.insertion.insert_random_values.Stat
 use Rattle.fixed_weights_u64.proofs.insertion.insert_random_values.Tie as tie
 
 abbrev Inv-loop : tie.InvT-loop
-Inv-loop result₀ values words place n fill first second split i₀ at₀ result i at =
-    Inserted 0 values words n first second split i₀ place (getD values fill 0) i at result
+Inv-loop output₀ values words place n fill first second split i₀ next₀ output i next =
+    Inserted 0 values words n first second split i₀ place (getD values fill 0) i next output
 
 abbrev μ-loop : tie.MeasureT-loop
-μ-loop result₀ values words place n fill first second split i₀ at₀ result i at = n - i
+μ-loop output₀ values words place n fill first second split i₀ next₀ output i next = n - i
+
+-- the function's entry, from where the output is filled and from the loop's head
+abbrev entry : tie.After-fill-with Inv-loop μ-loop → tie.Start Inv-loop μ-loop
+entry filled = filled .before .before .before .before .before
+
+abbrev begun : tie.At-loop Inv-loop μ-loop → tie.Start Inv-loop μ-loop
+begun t = entry (t .before .before .before .before)
+
+-- r is what a turn draws
+abbrev Draws : tie.At-loop Inv-loop μ-loop → Taken → Type 0
+Draws t r =
+    let words = begun t .args .words .now in
+    r ≡ taken (length words) (choose (t .loop .i + 1) (drop (t .loop .next) words))
+
+-- the turn in which a place is handed back
+abbrev turn : tie.After-known-told Inv-loop μ-loop → tie.In-loop Inv-loop μ-loop
+turn d = d .before .before .before .before
+
+drawn : (d : tie.After-known-told Inv-loop μ-loop) → let g = d .before .value .given .0 in Draws (turn d .before) (Got (g .0) (g .1 .0))
+drawn d = sym (d .before .value .given .1) ∙ d .before .before .before .uniform-below .ensures
 
 sub-split : tie.Need-sub-split Inv-loop μ-loop
 sub-split c = omega arith
 
 fill-with-requires : tie.Need-fill-with-requires Inv-loop μ-loop
-fill-with-requires c κs = c .before .before .before .before .pre .0 .fill-code
+fill-with-requires c κs = let known = c .before .before in known .before .before .pre .0 .fill-code
 
 sub-i : tie.Need-sub-i Inv-loop μ-loop
 sub-i c = omega arith
 
 loop-holds : tie.Need-loop-holds Inv-loop μ-loop
-loop-holds c = inserted-start (omega arith) (omega arith) (c .before .before .before .before .before .before .before .before .pre .1) (c .before .before .before .fill-with .ensures)
+loop-holds c =
+    let filled = c .before .before .before in
+    inserted-start (omega arith) (omega arith) (entry filled .pre .1) (filled .fill-with .ensures)
 
 add-uniform-below : tie.Need-add-uniform-below Inv-loop μ-loop
 add-uniform-below c = omega arith
@@ -45,21 +68,17 @@ enum-known-value c = search needs
 code-at-requires : tie.Need-code-at-requires Inv-loop μ-loop
 code-at-requires c κs = search needs
 
--- what was chosen, as the words have it
-drawn : (c : tie.After-known-told Inv-loop μ-loop)
-    → Got (c .before .value .given .0 .0) (c .before .value .given .0 .1 .0)
-    ≡ taken (length (c .before .before .before .before .before .before .before .before .before .before .before .before .before .before .args .words .now)) (choose (c .before .before .before .before .before .loop .i + 1) (drop (c .before .before .before .before .before .loop .at) (c .before .before .before .before .before .before .before .before .before .before .before .before .before .before .args .words .now)))
-drawn c = sym (c .before .value .given .1) ∙ c .before .before .before .uniform-below .ensures
-
 insert-at-requires : tie.Need-insert-at-requires Inv-loop μ-loop
 insert-at-requires c κs =
-    let size = c .before .before .before .before .before .before .before .loop .inv .turn .size in
-    let a = c .before .before .before .before .before .before .before .before .before .before .before .before .before .before .before .before .args in
-    let pre = c .before .before .before .before .before .before .before .before .before .before .before .before .before .before .before .before .pre .0 in
-    let chosen = chosen-below (a .words .now) (c .before .before .before .before .before .before .before .loop .at) _ _ (c .before .before .before .before .before .before .before .loop .i + 1) (drawn (c .before .before)) in (
+    let d = c .before .before in
+    let t = turn d .before in
+    let a = begun t .args in
+    let ready = begun t .pre .0 in
+    let size = t .loop .inv .turn .size in
+    let chosen = chosen-below (a .words .now) (t .loop .next) _ _ (t .loop .i + 1) (drawn d) in (
       omega (arith, size),
       omega (arith, size, chosen),
-      rw (c .before .code-at .ensures) (cond-below (ltb (c .before .before .before .before .before .before .before .loop .i) (length (a .result .now) - a .plan .seconds)) (pre .first-code) (pre .second-code)),
+      rw (c .before .code-at .ensures) (cond-below (ltb (t .loop .i) (length (a .output .now) - a .plan .seconds)) (ready .first-code) (ready .second-code)),
     )
 
 add-i : tie.Need-add-i Inv-loop μ-loop
@@ -69,27 +88,42 @@ loop-less : tie.Need-loop-less Inv-loop μ-loop
 loop-less c = omega arith
 
 loop-again : tie.Need-loop-again Inv-loop μ-loop
-loop-again c = inserted-next (c .before .before .before .before .before .before .before .before .before .before .loop .inv) (c .before .before .before .before .before .before .before .before .before .loop-test .taken) (drawn (c .before .before .before .before .before)) (c .before .before .before .before .code-at .ensures) (c .before .before .insert-at .ensures)
+loop-again c =
+    let stored = c .before .before in
+    let coded = stored .before .before in
+    let d = coded .before in
+    inserted-next (turn d .before .loop .inv) (turn d .loop-test .taken) (drawn d) (coded .code-at .ensures) (stored .insert-at .ensures)
 
 enum-told : tie.Need-enum-told Inv-loop μ-loop
 enum-told c = search needs
 
-clear-u64-requires : tie.Need-clear-u64-requires Inv-loop μ-loop
-clear-u64-requires c κs = search needs
+clear-requires : tie.Need-clear-requires Inv-loop μ-loop
+clear-requires c κs = search needs
+
+-- the turn in which a word is lacking
+abbrev last : tie.After-enum-told Inv-loop μ-loop → tie.In-loop Inv-loop μ-loop
+last d = d .before .before .before
+
+lacking : (d : tie.After-enum-told Inv-loop μ-loop) → Draws (last d .before) Short
+lacking d = sym (d .enum-told .given .1) ∙ d .before .before .uniform-below .ensures
 
 same-length : tie.Need-same-length Inv-loop μ-loop
-same-length c = c .before .before .clear-u64 .kept .0 ∙ c .before .before .before .before .before .before .before .before .loop .inv .turn .size
+same-length c =
+    let cleared = c .before .before in
+    cleared .clear .kept .0 ∙ last (cleared .before .before) .before .loop .inv .turn .size
 
 returns : tie.Need-returns Inv-loop μ-loop
 returns c =
-    plan-short (c .before .before .before .before .before .before .before .before .before .before .before .before .before .before .before .before .before .args .plan) (c .before .before .before .before .before .before .before .before .before .before .before .before .before .before .before .before .before .pre .0 .room) (c .before .before .before .before .before .before .before .before .loop .inv) (c .before .before .before .before .before .before .before .loop-test .taken)
-    (sym (c .before .before .before .before .enum-told .given .1) ∙ c .before .before .before .before .before .before .uniform-below .ensures) (c .before .before .clear-u64 .ensures)
+    let cleared = c .before .before in
+    let d = cleared .before .before in
+    let t = last d .before in
+    plan-short (begun t .args .plan) (begun t .pre .0 .room) (t .loop .inv) (last d .loop-test .taken) (lacking d) (cleared .clear .ensures)
 
 same-length-2 : tie.Need-same-length-2 Inv-loop μ-loop
 same-length-2 c = c .before .loop .inv .turn .size
 
 returns-2 : tie.Need-returns-2 Inv-loop μ-loop
-returns-2 c = plan-done (c .before .before .before .before .before .before .before .before .before .before .args .plan) (c .before .before .before .before .before .before .before .before .before .before .pre .0 .room) (c .before .loop .inv) (c .loop-test .left)
+returns-2 c = let t = c .before in plan-done (begun t .args .plan) (begun t .pre .0 .room) (t .loop .inv) (c .loop-test .left)
 
 pub insert-random-values-spec : {M : Type 1} → statement M
 insert-random-values-spec =
@@ -110,7 +144,7 @@ insert-random-values-spec =
     loop-less
     loop-again
     enum-told
-    clear-u64-requires
+    clear-requires
     same-length
     returns
     same-length-2

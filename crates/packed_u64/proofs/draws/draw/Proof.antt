@@ -18,13 +18,13 @@ returns c = serves-refused _ _ _ _ _ _ _ _ (c .before .draw-number .ensures) (c 
 passed : (c : tie.Else1) → let a = c .before .before .before .before .before .args in a .place ≤ length (a .words .now)
 passed c =
     let a = c .before .before .before .before .before .args in
-    number-passed (length (a .words .now)) (a .place) (length (a .result .now)) 0 (c .before .draw-number .ensures) (c .if1 .left) .0
+    number-passed (length (a .words .now)) (a .place) (length (a .output .now)) 0 (c .before .draw-number .ensures) (c .if1 .left) .0
 
 sub-if2 : tie.Need-sub-if2
 sub-if2 c = passed c
 
-clear-u64-requires : tie.Need-clear-u64-requires
-clear-u64-requires c κs = search needs
+clear-requires : tie.Need-clear-requires
+clear-requires c κs = search needs
 
 same-length : tie.Need-same-length
 same-length c = search needs
@@ -32,7 +32,7 @@ same-length c = search needs
 returns-2 : tie.Need-returns-2
 returns-2 c =
     let test = c .before .before .before .before in
-    serves-lacking _ _ _ _ _ _ _ _ (test .before .before .draw-number .ensures) (test .before .if1 .left) (test .if2 .taken) (c .before .before .clear-u64 .ensures)
+    serves-lacking _ _ _ _ _ _ _ _ (test .before .before .draw-number .ensures) (test .before .if1 .left) (test .if2 .taken) (c .before .before .clear .ensures)
 
 fill-words-requires : tie.Need-fill-words-requires
 fill-words-requires c κs =
@@ -59,7 +59,7 @@ draw-spec =
     draw-number-requires
     returns
     sub-if2
-    clear-u64-requires
+    clear-requires
     same-length
     returns-2
     fill-words-requires

@@ -14,7 +14,7 @@ returns : tie.Need-returns
 returns c =
     let a = c .before .before .before .before .before .before .before .before .before .args in
     let t = lent (a .bounds .now) (a .endpoints .now) (a .heights .now) (a .curve .now) in
-    crt-refused t (a .count) (a .moduli .now) (a .words .now) (a .place) (a .output .now) (a .self) _ (c .before .is-made .ensures) (c .if1 .taken)
+    crt-refused t (a .coefficient-count) (a .moduli .now) (a .words .now) (a .place) (a .output .now) (a .self) _ (c .before .is-made .ensures) (c .if1 .taken)
 
 method-fields-requires : tie.Need-method-fields-requires
 method-fields-requires c κs = search needs
@@ -37,7 +37,7 @@ returns-2 c =
     let fields = c .before .before .before .before .before .before .method-fields in
     let gaussian = c .before .before .before .before .before .try-new in
     let drawn = c .before .before .sample-crt-to in
-    crt-drawn t (a .count) (a .moduli .now) (a .words .now) (a .place) (a .output .now) (a .self) _ (made .before .is-made .ensures)
+    crt-drawn t (a .coefficient-count) (a .moduli .now) (a .words .now) (a .place) (a .output .now) (a .self) _ (made .before .is-made .ensures)
     (held-fits (a .self) _ (start .good .0)) (made .if1 .left) (fields .result) (fields .ensures) (gaussian .result) (gaussian .ensures)
     (outcome (drawn .result) (drawn .last .1 .0)) (drawn .ensures)
 

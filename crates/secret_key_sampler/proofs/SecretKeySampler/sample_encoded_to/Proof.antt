@@ -38,8 +38,8 @@ returns-3 c =
     encoded-made (a .self) t (a .modulus) (a .words .now) (a .place) (a .output .now) _ (made .before .is-made .ensures) (made .if1 .left) _
     (encoded-too-long t (a .modulus) (a .words .now) (a .place) (a .output .now) (of-secret (a .self .distr)) (c .before .if2 .left) (c .if3 .taken))
 
-validate-length-requires : tie.Need-validate-length-requires
-validate-length-requires c κs = search needs
+length-number-requires : tie.Need-length-number-requires
+length-number-requires c κs = search needs
 
 returns-4 : tie.Need-returns-4
 returns-4 c =
@@ -48,10 +48,10 @@ returns-4 c =
     let a = start .args in
     let t = lent (a .bounds .now) (a .endpoints .now) (a .heights .now) (a .curve .now) in
     encoded-bad-length (a .self) t (a .modulus) (a .words .now) (a .place) (a .output .now) _ (made .before .is-made .ensures) (made .if1 .left)
-    (c .before .before .before .if2 .left) (c .before .before .if3 .left) _ (c .before .validate-length .ensures) (c .if4 .taken)
+    (c .before .before .before .if2 .left) (c .before .before .if3 .left) _ (c .before .length-number .ensures) (c .if4 .taken)
 
-validate-modulus-requires : tie.Need-validate-modulus-requires
-validate-modulus-requires c κs = search needs
+modulus-number-requires : tie.Need-modulus-number-requires
+modulus-number-requires c κs = search needs
 
 returns-5 : tie.Need-returns-5
 returns-5 c =
@@ -62,14 +62,14 @@ returns-5 c =
     encoded-bad-modulus (a .self) t (a .modulus) (a .words .now) (a .place) (a .output .now) _ (made .before .is-made .ensures)
     (held-fits (a .self) _ (start .good .0)) (made .if1 .left)
     (c .before .before .before .before .before .if2 .left) (c .before .before .before .before .if3 .left)
-    (sym (c .before .before .before .validate-length .ensures) ∙ c .before .before .if4 .left)
-    (modulus-low _ _ _ (c .before .validate-modulus .ensures) (c .if5 .taken))
+    (sym (c .before .before .before .length-number .ensures) ∙ c .before .before .if4 .left)
+    (modulus-low _ _ _ (c .before .modulus-number .ensures) (c .if5 .taken))
 
-sub-sample-to-with-u64 : tie.Need-sub-sample-to-with-u64
-sub-sample-to-with-u64 c = modulus-some _ _ _ (c .before .before .validate-modulus .ensures) (c .before .if5 .left)
+sub-minus-one : tie.Need-sub-minus-one
+sub-minus-one c = modulus-some _ _ _ (c .before .modulus-number .ensures) (c .if5 .left)
 
-sample-to-with-u64-requires : tie.Need-sample-to-with-u64-requires
-sample-to-with-u64-requires c κs = search needs
+sample-to-with-requires : tie.Need-sample-to-with-requires
+sample-to-with-requires c κs = search needs
 
 same-length : tie.Need-same-length
 same-length c = search needs
@@ -82,8 +82,8 @@ returns-6 c =
     let t = lent (a .bounds .now) (a .endpoints .now) (a .heights .now) (a .curve .now) in
     encoded-drawn (a .self) t (a .modulus) (a .words .now) (a .place) (a .output .now) _ (made .before .is-made .ensures)
     (held-fits (a .self) _ (start .good .0)) (made .if1 .left)
-    (modulus-above _ _ _ (c .before .before .before .before .before .validate-modulus .ensures) (c .before .before .before .before .if5 .left))
-    _ (c .before .before .sample-to-with-u64 .ensures)
+    (modulus-above _ _ _ (c .before .before .before .before .before .modulus-number .ensures) (c .before .before .before .before .if5 .left))
+    _ (c .before .before .sample-to-with .ensures)
 
 pub sample-encoded-to-spec : {M : Type 1} → statement M
 sample-encoded-to-spec =
@@ -93,11 +93,11 @@ sample-encoded-to-spec =
     returns
     returns-2
     returns-3
-    validate-length-requires
+    length-number-requires
     returns-4
-    validate-modulus-requires
+    modulus-number-requires
     returns-5
-    sub-sample-to-with-u64
-    sample-to-with-u64-requires
+    sub-minus-one
+    sample-to-with-requires
     same-length
     returns-6)

@@ -17,8 +17,8 @@ returns c =
     let t = lent (a .bounds .now) (a .endpoints .now) (a .heights .now) (a .curve .now) in
     signed-refused (a .self) t (a .words .now) (a .place) (a .output .now) _ (c .before .is-made .ensures) (c .if1 .taken)
 
-sample-to-with-i64-requires : tie.Need-sample-to-with-i64-requires
-sample-to-with-i64-requires c κs = search needs
+sample-to-with-requires : tie.Need-sample-to-with-requires
+sample-to-with-requires c κs = search needs
 
 same-length : tie.Need-same-length
 same-length c = search needs
@@ -30,8 +30,8 @@ returns-2 c =
     let a = start .args in
     let t = lent (a .bounds .now) (a .endpoints .now) (a .heights .now) (a .curve .now) in
     signed-drawn (a .self) t (a .words .now) (a .place) (a .output .now) _ (made .before .is-made .ensures)
-    (held-fits (a .self) _ (start .good .0)) (made .if1 .left) _ (c .before .sample-to-with-i64 .ensures)
+    (held-fits (a .self) _ (start .good .0)) (made .if1 .left) _ (c .before .sample-to-with .ensures)
 
 pub sample-signed-to-spec : {M : Type 1} → statement M
 sample-signed-to-spec =
-    tie.close (tie.spec is-made-requires returns sample-to-with-i64-requires same-length returns-2)
+    tie.close (tie.spec is-made-requires returns sample-to-with-requires same-length returns-2)

@@ -4,34 +4,38 @@ use Rattle.ternary.specs.Sampler.{planOf}
 use Rattle.ternary.proofs.ternary.plan_of.Statement.{statement}
 use Rattle.ternary.proofs.ternary.plan_of.Tie as tie
 
-enum-known-sampler : tie.Need-enum-known-sampler
-enum-known-sampler c = search needs
+enum-known-ends : tie.Need-enum-known-ends
+enum-known-ends c = search needs
 
-enum-known-sampler-2 : tie.Need-enum-known-sampler-2
-enum-known-sampler-2 c = search needs
+enum-known-ends-2 : tie.Need-enum-known-ends-2
+enum-known-ends-2 c = search needs
 
-enum-known-sampler-3 : tie.Need-enum-known-sampler-3
-enum-known-sampler-3 c = search needs
+enum-known-ends-3 : tie.Need-enum-known-ends-3
+enum-known-ends-3 c = search needs
+
+larger-requires : tie.Need-larger-requires
+larger-requires c κs = search needs
 
 returns : tie.Need-returns
 unfolding planOf
-returns c = rw (c .before .sampler .given .1)
+returns c = rw (c .before .ends .given .1)
 
 returns-2 : tie.Need-returns-2
 unfolding planOf
-returns-2 c = rw (c .before .sampler2 .given .1)
+returns-2 c = rw (c .before .ends2 .given .1)
 
 returns-3 : tie.Need-returns-3
 unfolding planOf
-returns-3 c = rw (c .before .sampler3 .given .1)
+returns-3 c = rw (c .before .before .ends3 .given .1, c .larger .ensures)
 
 pub plan-of-spec : {M : Type 1} → statement M
 plan-of-spec =
     tie.close
     (tie.spec
-    enum-known-sampler
-    enum-known-sampler-2
-    enum-known-sampler-3
+    enum-known-ends
+    enum-known-ends-2
+    enum-known-ends-3
+    larger-requires
     returns
     returns-2
     returns-3)

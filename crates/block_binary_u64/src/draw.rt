@@ -1,0 +1,35 @@
+// Block-binary values: the output is cut into blocks of one size, each with a single one at a chosen place, or none where the occupancy
+// allows it.
+use crate::Encoding;
+use crate::Out;
+use crate::blocks;
+use distr::answer::Answer;
+use distr::secret_key_distr::BlockOccupancy;
+ghost use mathlib.Core.Path.{_≡_};
+ghost use lib.ListN.{length};
+ghost use Rattle.distr.specs.Blocks.{blockBinary};
+ghost use Rattle.distr.specs.Numbers.{badBlocks};
+ghost use Rattle.distr.specs.Draw.{outcome, ruleDraw};
+ghost use Rattle.output_u64.specs.Out.{held};
+
+// Block-binary values from the words at `place` on, one choice for each block.
+pub fn sample_block_binary_values_to(
+    output: &mut [Out],
+    encoding: Encoding,
+    block_size: usize,
+    occupancy: BlockOccupancy,
+    words: &[u32],
+    place: usize,
+) -> Answer
+    ensures { λ r. ⌜ (let n = length (now (output .entry)) in outcome r (now (output .exit)) ≡ ruleDraw (held encoding)
+        (badBlocks «block_size» n) (blockBinary «block_size» occupancy n)
+        (now (words .entry)) place (now (output .entry))) ⌝ }
+{
+    let own = numbers::block_number(block_size, output.len());
+    let number = numbers::draw_number(words.len(), place, output.len(), own);
+    if number != 0 {
+        return Answer { number, place };
+    }
+    let choices = block_binary::category_count(block_size, occupancy);
+    blocks::draw_blocks(output, encoding, block_size, choices, words, place)
+}

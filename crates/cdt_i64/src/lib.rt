@@ -1,0 +1,51 @@
+// Inner crate of primus_distr: the cumulative Gaussian draw, by a lent table of bounds and a 64-bit word for each coefficient, for one output type;
+// this file names the output's type, the others are one text for every type.
+use cdt::table_number;
+use distr::answer::Answer;
+ghost use mathlib.Core.Path.{_≡_};
+ghost use mathlib.Core.Bool.{not};
+ghost use lib.ListN.{length};
+ghost use Rattle.distr.specs.Gaussian.{cumulative, cumulativeTable};
+ghost use Rattle.distr.specs.Making.{refuse};
+ghost use Rattle.distr.specs.Draw.{outcome, ruleDraw};
+ghost use Rattle.output_i64.specs.Out.{held};
+
+mod index;
+mod store;
+
+pub(crate) use output_i64::Encoding;
+pub(crate) use output_i64::Out;
+pub(crate) use output_i64::clear;
+pub(crate) use output_i64::coefficient;
+
+// Draws coefficients by the table, which is judged first; the encoding says how they are held.
+pub fn sample_cdt_to(
+    output: &mut [Out],
+    encoding: Encoding,
+    maximum_magnitude: u64,
+    bounds: &[u64],
+    words: &[u32],
+    place: usize,
+) -> Answer
+    ensures { λ r. ⌜ outcome r (now (output .exit)) ≡
+        ruleDraw (held encoding) (refuse (not (cumulativeTable «maximum_magnitude» (now (bounds .entry)))) 12)
+        (cumulative «maximum_magnitude» (now (bounds .entry)) (length (now (output .entry)))) (now (words .entry)) place (now (output .entry)) ⌝ }
+{
+    let own = table_number(maximum_magnitude, bounds);
+    let answer = wide_words::answer_of(own, true, words.len(), place, output.len());
+    if answer.number == 0 {
+        store::fill(
+            output,
+            encoding,
+            maximum_magnitude as usize,
+            bounds,
+            words,
+            place,
+        );
+        return answer;
+    }
+    if answer.number == 23 {
+        clear(output);
+    }
+    answer
+}

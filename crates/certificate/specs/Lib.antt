@@ -1,0 +1,2 @@
+-- Demand 3, in one file.
+pub mod Certificate

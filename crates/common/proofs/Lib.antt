@@ -1,2 +1,0 @@
--- Laws of a draw by probabilities.
-pub mod Judging

@@ -1,2 +1,0 @@
--- What a draw by probabilities hands back.
-pub mod Probabilities

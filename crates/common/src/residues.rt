@@ -1,0 +1,196 @@
+// Residues of a modulus, -1 as modulus - 1. Numbers in order: those of making (1 or 5), then 22, 6, 7 or 8, 9, 23.
+use distr::answer::Answer;
+use distr::secret_key_distr::BlockOccupancy;
+use distr::secret_key_distr::SecretKeyDistr;
+use secret_key_sampler::SecretKeySampler;
+ghost use mathlib.Core.Path.{_≡_};
+ghost use Rattle.distr.specs.declared.secret_key_distr.SecretKeyDistr.the-variants.{UniformBinary, Binary, SparseTernary, UniformTernary, Ternary, FixedHammingWeightBinary, BlockBinary, FixedHammingWeightTernary, FixedCompositionTernary};
+ghost use Rattle.distr.specs.Distribution.{secret};
+ghost use Rattle.distr.specs.Draw.{outcome, encodedAtOnce};
+
+// The same as for signed coefficients, by the sampler's encoded draw.
+fn sample_at_once(
+    output: &mut [u64],
+    modulus: u64,
+    distr: SecretKeyDistr,
+    words: &[u32],
+    place: usize,
+) -> Answer
+    ensures { λ r. ⌜ outcome r (now (output .exit)) ≡ encodedAtOnce (secret distr) modulus (now (words .entry)) place (now (output .entry)) ⌝ }
+{
+    let made = SecretKeySampler::try_new(distr);
+    let number = made.number;
+    if number != 0 {
+        return Answer { number, place };
+    }
+    let sampler = made.sampler;
+    sampler.sample_encoded_to(output, modulus, &[], &[], &[], &[], words, place)
+}
+
+// 0 and 1, each with probability 1/2.
+pub fn sample_uniform_binary_values_to(
+    output: &mut [u64],
+    modulus: u64,
+    words: &[u32],
+    place: usize,
+) -> Answer
+    ensures { λ r. ⌜ outcome r (now (output .exit)) ≡ encodedAtOnce (secret UniformBinary) modulus (now (words .entry)) place (now (output .entry)) ⌝ }
+{
+    sample_at_once(output, modulus, SecretKeyDistr::UniformBinary, words, place)
+}
+
+// 1 with the given probability, else 0. What is no probability gives 1.
+pub fn sample_binary_values_with_probability_to(
+    output: &mut [u64],
+    modulus: u64,
+    one_probability: f64,
+    words: &[u32],
+    place: usize,
+) -> Answer
+    ensures { λ r. ⌜ outcome r (now (output .exit)) ≡ encodedAtOnce (secret (Binary «one_probability»)) modulus (now (words .entry)) place (now (output .entry)) ⌝ }
+{
+    sample_at_once(
+        output,
+        modulus,
+        SecretKeyDistr::Binary { one_probability },
+        words,
+        place,
+    )
+}
+
+// Exactly hamming_weight ones. A weight over the length gives 7.
+pub fn sample_fixed_hamming_weight_binary_values_to(
+    output: &mut [u64],
+    modulus: u64,
+    hamming_weight: usize,
+    words: &[u32],
+    place: usize,
+) -> Answer
+    ensures { λ r. ⌜ outcome r (now (output .exit)) ≡ encodedAtOnce (secret (FixedHammingWeightBinary «hamming_weight»)) modulus (now (words .entry)) place (now (output .entry)) ⌝ }
+{
+    sample_at_once(
+        output,
+        modulus,
+        SecretKeyDistr::FixedHammingWeightBinary { hamming_weight },
+        words,
+        place,
+    )
+}
+
+// Blocks with a one at a chosen place, or with none where the occupancy allows it. A bad block size gives 5, a bad length 8.
+pub fn sample_block_binary_values_to(
+    output: &mut [u64],
+    modulus: u64,
+    block_size: usize,
+    occupancy: BlockOccupancy,
+    words: &[u32],
+    place: usize,
+) -> Answer
+    ensures { λ r. ⌜ outcome r (now (output .exit)) ≡ encodedAtOnce (secret (BlockBinary «block_size» occupancy)) modulus (now (words .entry)) place (now (output .entry)) ⌝ }
+{
+    sample_at_once(
+        output,
+        modulus,
+        SecretKeyDistr::BlockBinary {
+            block_size,
+            occupancy,
+        },
+        words,
+        place,
+    )
+}
+
+// 0 with probability 1/2, 1 and -1 with 1/4 each.
+pub fn sample_sparse_ternary_values_to(
+    output: &mut [u64],
+    modulus: u64,
+    words: &[u32],
+    place: usize,
+) -> Answer
+    ensures { λ r. ⌜ outcome r (now (output .exit)) ≡ encodedAtOnce (secret SparseTernary) modulus (now (words .entry)) place (now (output .entry)) ⌝ }
+{
+    sample_at_once(output, modulus, SecretKeyDistr::SparseTernary, words, place)
+}
+
+// -1, 0 and 1 with probability 1/3 each.
+pub fn sample_uniform_ternary_values_to(
+    output: &mut [u64],
+    modulus: u64,
+    words: &[u32],
+    place: usize,
+) -> Answer
+    ensures { λ r. ⌜ outcome r (now (output .exit)) ≡ encodedAtOnce (secret UniformTernary) modulus (now (words .entry)) place (now (output .entry)) ⌝ }
+{
+    sample_at_once(
+        output,
+        modulus,
+        SecretKeyDistr::UniformTernary,
+        words,
+        place,
+    )
+}
+
+// -1 and 1 with the given probabilities, else 0. Bad probabilities give 1.
+pub fn sample_ternary_values_with_probabilities_to(
+    output: &mut [u64],
+    modulus: u64,
+    minus_one_probability: f64,
+    one_probability: f64,
+    words: &[u32],
+    place: usize,
+) -> Answer
+    ensures { λ r. ⌜ outcome r (now (output .exit)) ≡ encodedAtOnce (secret (Ternary «minus_one_probability» «one_probability»)) modulus (now (words .entry)) place (now (output .entry)) ⌝ }
+{
+    sample_at_once(
+        output,
+        modulus,
+        SecretKeyDistr::Ternary {
+            negative_one_probability: minus_one_probability,
+            one_probability,
+        },
+        words,
+        place,
+    )
+}
+
+// Exactly hamming_weight coefficients that are not 0, each with a sign of its own. A weight over the length gives 7.
+pub fn sample_fixed_hamming_weight_ternary_values_to(
+    output: &mut [u64],
+    modulus: u64,
+    hamming_weight: usize,
+    words: &[u32],
+    place: usize,
+) -> Answer
+    ensures { λ r. ⌜ outcome r (now (output .exit)) ≡ encodedAtOnce (secret (FixedHammingWeightTernary «hamming_weight»)) modulus (now (words .entry)) place (now (output .entry)) ⌝ }
+{
+    sample_at_once(
+        output,
+        modulus,
+        SecretKeyDistr::FixedHammingWeightTernary { hamming_weight },
+        words,
+        place,
+    )
+}
+
+// Exactly so many -1 and so many 1. Weights over the length give 7.
+pub fn sample_fixed_composition_ternary_values_to(
+    output: &mut [u64],
+    modulus: u64,
+    minus_one_weight: usize,
+    one_weight: usize,
+    words: &[u32],
+    place: usize,
+) -> Answer
+    ensures { λ r. ⌜ outcome r (now (output .exit)) ≡ encodedAtOnce (secret (FixedCompositionTernary «minus_one_weight» «one_weight»)) modulus (now (words .entry)) place (now (output .entry)) ⌝ }
+{
+    sample_at_once(
+        output,
+        modulus,
+        SecretKeyDistr::FixedCompositionTernary {
+            negative_one_weight: minus_one_weight,
+            one_weight,
+        },
+        words,
+        place,
+    )
+}

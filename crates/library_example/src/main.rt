@@ -1,0 +1,98 @@
+// The library by example, through `primus_distr` alone. A line is a name, the number, the place after the draw and what the output holds; the
+// file `stdout` is worked out by hand from document 01. Every output is 9 throughout before its draw, so what a refusal leaves is seen.
+mod print;
+mod refusals;
+
+use primus_distr::BlockOccupancy;
+use primus_distr::CenteredBinomial;
+use primus_distr::ErrorDistribution;
+use primus_distr::ErrorSampler;
+use primus_distr::SecretKeyDistr;
+use primus_distr::SecretKeySampler;
+use primus_distr::SignedDiscreteGaussian;
+use primus_distr::TernarySampler;
+use primus_distr::crt_row;
+use primus_distr::residues;
+use primus_distr::signed;
+
+// A sampler is made once and draws any number of keys, each from the place where the last one ended. The two-bit groups of the word 0xE4
+// are 0, 1, 2, 3, lowest first, so a sparse ternary key is 0 0 1 -1; over 17 the -1 is 16. The distribution needs no tables.
+fn keys() {
+    let words = [0xe4, 0xe4];
+    let made = SecretKeySampler::try_new(SecretKeyDistr::SparseTernary);
+    let sampler = made.sampler;
+    let mut key = [9i64; 4];
+    let first = sampler.sample_signed_to(&mut key, &[], &[], &[], &[], &words, 0);
+    print::signed_line(b"key", first, &key);
+    let mut residues = [9u64; 4];
+    let place = first.place;
+    let second = sampler.sample_encoded_to(&mut residues, 17, &[], &[], &[], &[], &words, place);
+    print::line(b"key over 17", second, &residues);
+}
+
+// Two errors of eta 2 over the moduli 5 and 7, a row for each modulus: the 64-bit words 12 and 7 give -2 and 1 (marked case 6), so
+// the rows are 3 1 and 5 1 (marked case 11). The row of one modulus is that part of the output.
+fn errors() {
+    let words = [12, 0, 7, 0];
+    let made = ErrorSampler::try_new(ErrorDistribution::CenteredBinomial { eta: 2 });
+    let sampler = made.sampler;
+    let mut rows = [9u64; 4];
+    let answer = sampler.sample_crt_to(&mut rows, 2, &[5, 7], &[], &[], &[], &[], &words, 0);
+    print::line(b"errors over 5 and 7", answer, &rows);
+    let row = crt_row(&mut rows, 2, 2, 1);
+    print::line(b"the row of 7", answer, row);
+}
+
+// One error of eta 2, without tables: the 64-bit word 7 gives 1 (marked case 6).
+fn centered_binomial() {
+    let made = CenteredBinomial::new(2);
+    let sampler = made.sampler;
+    let mut output = [9i64; 1];
+    let answer = sampler.sample_to(&mut output, &[7, 0], 0);
+    print::signed_line(b"centered binomial", answer, &output);
+}
+
+// The deviation 0.7 has the support 8, so its table has ten bounds. The 64-bit words 5 and 8 have the magnitudes 1 and 2, the largest index
+// whose bound is at most the word; 5 is odd, so positive.
+fn gaussian() {
+    let last = 0xffff_ffff_ffff_ffff;
+    let bounds = [0, 4, 8, last, last, last, last, last, last, last];
+    let words = [5, 0, 8, 0];
+    let made = SignedDiscreteGaussian::new(0.7);
+    let sampler = made.sampler;
+    let mut output = [9i64; 2];
+    let answer = sampler.sample_to(&mut output, &bounds, &[], &[], &[], &words, 0);
+    print::signed_line(b"gaussian", answer, &output);
+}
+
+// Probabilities of 1/4 have the ends 2^62 and 2^63: the 64-bit words 0, 2^62 and 2^63 give -1, 1 and 0.
+fn ternary() {
+    let words = [0, 0, 0, 0x4000_0000, 0, 0x8000_0000];
+    let made = TernarySampler::try_new(0.25, 0.25);
+    let sampler = made.sampler;
+    let mut output = [9i64; 3];
+    let answer = sampler.sample_signed_to(&mut output, &words, 0);
+    print::signed_line(b"ternary", answer, &output);
+}
+
+// Draws without a sampler: the word 5 as five base-3 digits (marked case 2), and two blocks of 2 by the choices 1 and 0 (marked case 12).
+fn at_once() {
+    let mut digits = [9i64; 5];
+    let answer = signed::sample_uniform_ternary_values_to(&mut digits, &[5], 0);
+    print::signed_line(b"uniform ternary", answer, &digits);
+    let mut blocks = [9u64; 4];
+    let occupancy = BlockOccupancy::ExactlyOne;
+    let answer = residues::sample_block_binary_values_to(&mut blocks, 2, 2, occupancy, &[1, 0], 0);
+    print::line(b"blocks over 2", answer, &blocks);
+}
+
+fn main() {
+    keys();
+    errors();
+    centered_binomial();
+    gaussian();
+    ternary();
+    at_once();
+    refusals::states();
+    refusals::inputs();
+}

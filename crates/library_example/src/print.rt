@@ -1,0 +1,60 @@
+// Lines on standard output.
+use libc::STDOUT_FILENO;
+use primus_distr::Answer;
+
+// The name, the number and the place.
+fn head(name: &[u8], number: u32, place: usize) {
+    io::write_all(STDOUT_FILENO, name);
+    io::write_all(STDOUT_FILENO, b": ");
+    io::print_decimal(STDOUT_FILENO, number as u64);
+    io::write_all(STDOUT_FILENO, b" ");
+    io::print_decimal(STDOUT_FILENO, place as u64);
+}
+
+// The end of a line.
+fn end() {
+    io::write_all(STDOUT_FILENO, b"\n");
+}
+
+// A space and a number.
+fn unsigned(value: u64) {
+    io::write_all(STDOUT_FILENO, b" ");
+    io::print_decimal(STDOUT_FILENO, value);
+}
+
+// A space and a coefficient: those of this example that are negative are -2 and -1.
+fn signed(value: i64) {
+    if value == -2 {
+        io::write_all(STDOUT_FILENO, b" -2");
+    } else if value == -1 {
+        io::write_all(STDOUT_FILENO, b" -1");
+    } else if value == 0 {
+        unsigned(0);
+    } else if value == 1 {
+        unsigned(1);
+    } else {
+        unsigned(9);
+    }
+}
+
+// A line of a signed draw.
+pub(crate) fn signed_line(name: &[u8], answer: Answer, values: &[i64]) {
+    head(name, answer.number, answer.place);
+    let mut i = 0;
+    while i < values.len() {
+        signed(values[i]);
+        i += 1;
+    }
+    end();
+}
+
+// A line of residues.
+pub(crate) fn line(name: &[u8], answer: Answer, values: &[u64]) {
+    head(name, answer.number, answer.place);
+    let mut i = 0;
+    while i < values.len() {
+        unsigned(values[i]);
+        i += 1;
+    }
+    end();
+}

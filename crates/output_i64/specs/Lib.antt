@@ -1,0 +1,2 @@
+-- What a signed output holds.
+pub mod Out

@@ -1,0 +1,2 @@
+-- What an output of residues holds.
+pub mod Out

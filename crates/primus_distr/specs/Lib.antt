@@ -1,0 +1,2 @@
+-- The three samplers that the library's face declares.
+pub mod Views

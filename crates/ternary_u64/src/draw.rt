@@ -1,0 +1,59 @@
+// `Ternary`: -1, 0 and 1 by two thresholds.
+use crate::Encoding;
+use crate::Out;
+use crate::clear;
+use crate::ends;
+use crate::fill;
+use crate::minus_one;
+use distr::answer::Answer;
+use ternary::ternary::TernaryEnds;
+use ternary::ternary::TernaryValue;
+use ternary::ternary::plan_of;
+ghost use mathlib.Core.Path.{_≡_};
+ghost use lib.ListN.{length};
+ghost use Rattle.distr.specs.Draw.{outcome, ruleDraw};
+ghost use Rattle.ternary.specs.Sampler.{valueOf, samplerRule};
+ghost use Rattle.output_u64.specs.Out.{heldOne, held};
+
+// A value as the output holds it.
+fn encoded(encoding: Encoding, value: TernaryValue) -> Out
+    ensures { λ r. ⌜ r ≡ heldOne encoding (valueOf value) ⌝ }
+{
+    match value {
+        TernaryValue::MinusOne => minus_one(encoding),
+        TernaryValue::Zero => 0,
+        TernaryValue::One => 1,
+    }
+}
+
+// Draws every coefficient by the ends; a constant reads nothing.
+pub fn sample_to(
+    output: &mut [Out],
+    encoding: Encoding,
+    ends: TernaryEnds,
+    words: &[u32],
+    place: usize,
+) -> Answer
+    ensures { λ r. ⌜ outcome r (now (output .exit)) ≡
+        ruleDraw (held encoding) 0 (samplerRule ends (length (now (output .entry)))) (now (words .entry)) place (now (output .entry)) ⌝ }
+{
+    let plan = plan_of(ends);
+    let answer = wide_words::answer_of(0, plan.reads, words.len(), place, output.len());
+    if answer.number == 23 {
+        clear(output);
+        return answer;
+    }
+    if answer.number != 0 {
+        return answer;
+    }
+    if !plan.reads {
+        let value = plan.constant;
+        fill(output, encoded(encoding, value));
+        return answer;
+    }
+    let values: [Out; 3] = [minus_one(encoding), plan.between as Out, plan.above as Out];
+    let low = plan.first_end;
+    let high = plan.second_end;
+    ends::pick(output, low, high, &values, words, place);
+    answer
+}

@@ -1,0 +1,123 @@
+-- `store::fill` tries and stores, turn by turn. The measure is the words left, of which each try takes one.
+use mathlib.Core.Path.{refl, _∙_}
+use mathlib.Core.Logic.{⊎-map}
+use Prim.Native.Nat.{ℕ, _-_}
+use native.Mathlib.Omega.{arith}
+use borrow.Author.Needs.{needs}
+use lib.ListN.{length}
+use Rattle.output_u64.specs.Out.{heldOne, held}
+use Rattle.distr.specs.Layered.{layeredOne}
+use Rattle.ziggurat.specs.Tables.{tables}
+use Rattle.ziggurat.proofs.Filling.{Filled, filled-none}
+use Rattle.ziggurat.proofs.Turning.{Given, given, Turn, begin, asked, full, cut, edge, Turned, turned}
+use Rattle.ziggurat_u64.proofs.store.fill.Statement.{statement}
+use Rattle.ziggurat_u64.proofs.store.fill.Tie as tie
+
+abbrev Inv-loop : tie.InvT-loop
+Inv-loop output₀ encoding parameters zero endpoints heights curve words place n i₀ at₀ output i at =
+    Filled (heldOne encoding) (layeredOne (parameters .«standard_deviation») (tables endpoints heights curve)) words place output₀ i at output
+
+abbrev μ-loop : tie.MeasureT-loop
+μ-loop output₀ encoding parameters zero endpoints heights curve words place n i₀ at₀ output i at = length words - at
+
+abbrev lent : tie.At-loop Inv-loop μ-loop → Given ℕ
+lent l =
+    let s = l .before .before .before .before .before .before in
+    let a = s .args in
+    given (held (a .encoding)) (heldOne (a .encoding)) (λ cs. refl) (a .parameters) (a .zero)
+    (tables (a .endpoints .now) (a .heights .now) (a .curve .now)) (a .words .now) (a .place) (a .output .now) (s .pre)
+
+abbrev turn : (c : tie.After-attempt Inv-loop μ-loop) → Turn (lent (c .before .before))
+turn c =
+    let l = c .before .before .loop in
+    begin (lent (c .before .before)) (l .i) (l .at) (l .output) (l .inv) (c .before .loop-test .taken) (c .attempt .result) (c .attempt .ensures)
+
+-- what the turn stores is the residue
+stored : (c : tie.After-coefficient Inv-loop μ-loop)
+    → let t = c .before .before .before .before in
+    Turned (turn (t .before .before)) (c .before .before .if1 .passed) (t .tried .given .0 .1 .1 .0) (c .coefficient .result)
+stored c =
+    let j = c .before .before in
+    let t = j .before .before in
+    turned (turn (t .before .before)) (t .tried .given .1) (j .if1 .passed)
+    (⊎-map (λ w. (w .0 .taken, w .1)) (λ w. (w .0 .left, w .1 .result, w .1 .ensures, w .2)) (j .if1 .came)) _
+    (c .coefficient .ensures)
+
+loop-holds : tie.Need-loop-holds Inv-loop μ-loop
+loop-holds c = filled-none _ _ _ _ _ (c .before .before .before .before .before .pre .1 .1)
+
+attempt-requires : tie.Need-attempt-requires Inv-loop μ-loop
+attempt-requires c κs = asked (lent (c .before)) _ _ _ (c .before .loop .inv)
+
+enum-known-tried : tie.Need-enum-known-tried Inv-loop μ-loop
+enum-known-tried c = search needs
+
+enum-told : tie.Need-enum-told Inv-loop μ-loop
+enum-told c = search needs
+
+clear-requires : tie.Need-clear-requires Inv-loop μ-loop
+clear-requires c κs = search needs
+
+same-length : tie.Need-same-length Inv-loop μ-loop
+same-length c = c .before .before .clear .kept .0 ∙ turn (c .before .before .before .before .before .before) .held .sized
+
+returns : tie.Need-returns Inv-loop μ-loop
+returns c = cut (turn (c .before .before .before .before .before .before)) (c .before .before .before .before .enum-told .given .1) _ (c .before .before .clear .ensures)
+
+passes-edge-requires : tie.Need-passes-edge-requires Inv-loop μ-loop
+passes-edge-requires c κs = edge (turn (c .before .before .before .before)) (c .before .before .tried .given .1) (c .if1 .left)
+
+cast-coefficient : tie.Need-cast-coefficient Inv-loop μ-loop
+cast-coefficient c = search needs
+
+coefficient-requires : tie.Need-coefficient-requires Inv-loop μ-loop
+coefficient-requires c κs = search needs
+
+mul-output : tie.Need-mul-output Inv-loop μ-loop
+mul-output c = omega arith
+
+slice-write-output : tie.Need-slice-write-output Inv-loop μ-loop
+slice-write-output c = omega (arith, turn (c .before .before .before .before .before .before) .held .sized)
+
+cast-i : tie.Need-cast-i Inv-loop μ-loop
+cast-i c = search needs
+
+add-i : tie.Need-add-i Inv-loop μ-loop
+add-i c = omega (arith, stored c .1 .fits)
+
+loop-less : tie.Need-loop-less Inv-loop μ-loop
+loop-less c = omega (arith, stored c .0, stored c .1 .within)
+
+loop-again : tie.Need-loop-again Inv-loop μ-loop
+loop-again c = stored c .1
+
+same-length-2 : tie.Need-same-length-2 Inv-loop μ-loop
+same-length-2 c = c .before .loop .inv .sized
+
+returns-2 : tie.Need-returns-2 Inv-loop μ-loop
+returns-2 c = full (lent (c .before)) _ _ _ (c .before .loop .inv) (c .loop-test .left)
+
+pub fill-spec : {M : Type 1} → statement M
+fill-spec =
+    tie.close
+    (tie.spec
+    Inv-loop
+    μ-loop
+    loop-holds
+    attempt-requires
+    enum-known-tried
+    enum-told
+    clear-requires
+    same-length
+    returns
+    passes-edge-requires
+    cast-coefficient
+    coefficient-requires
+    mul-output
+    slice-write-output
+    cast-i
+    add-i
+    loop-less
+    loop-again
+    same-length-2
+    returns-2)
