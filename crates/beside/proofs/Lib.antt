@@ -1,3 +1,2 @@
--- Laws on the calls: what a kind names, and what a made sampler draws.
+-- Laws on the calls: what a kind names.
 pub mod Naming
-pub mod Making

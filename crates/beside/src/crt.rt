@@ -1,13 +1,12 @@
 // The call that draws residues of several moduli.
-use crate::make::Made;
-use crate::make::make;
-use distr::answer::Answer;
+use crate::kind::by_kind;
 ghost use mathlib.Core.Bool.{true};
 ghost use mathlib.Core.Path.{_≡_};
 ghost use Rattle.distr.specs.Distribution.{Distr};
 ghost use Rattle.distr.specs.Draw.{crtDraw};
 ghost use Rattle.signed_discrete_gaussian.specs.Lent.{lent};
-ghost use Rattle.beside.specs.Calls.{answered, called, named};
+ghost use Rattle.any_sampler.specs.Either.{anyAtOnce};
+ghost use Rattle.beside.specs.Calls.{answered, named};
 
 // A draw of residues of several moduli.
 #[no_mangle]
@@ -28,36 +27,22 @@ pub extern "C" fn beside_crt(
     output: &mut [u64],
     new_place: &mut usize,
 ) -> u32
-    ensures { λ r. ⌜ answered r (now («new_place» .exit)) (now (output .exit)) ≡ called (λ (d : Distr). crtDraw true d
+    ensures { λ r. ⌜ answered r (now («new_place» .exit)) (now (output .exit)) ≡ anyAtOnce (named kind a b p q) place (now (output .entry)) (λ (d : Distr). crtDraw true d
         (lent (now (bounds .entry)) (now (endpoints .entry)) (now (heights .entry)) (now (curve .entry)))
-        «coefficient_count» (now (moduli .entry)) (now (words .entry)) place (now (output .entry)))
-        place (now (output .entry)) (named kind a b p q) ⌝ }
+        «coefficient_count» (now (moduli .entry)) (now (words .entry)) place (now (output .entry))) ⌝ }
 {
-    let answer = match make(kind, a, b, p, q) {
-        Made::Key(sampler) => sampler.sample_crt_to(
-            output,
-            coefficient_count,
-            moduli,
-            bounds,
-            endpoints,
-            heights,
-            curve,
-            words,
-            place,
-        ),
-        Made::Error(sampler) => sampler.sample_crt_to(
-            output,
-            coefficient_count,
-            moduli,
-            bounds,
-            endpoints,
-            heights,
-            curve,
-            words,
-            place,
-        ),
-        Made::Refused(number) => Answer { number, place },
-    };
+    let distr = by_kind(kind, a, b, p, q);
+    let answer = distr.draw_crt(
+        output,
+        coefficient_count,
+        moduli,
+        bounds,
+        endpoints,
+        heights,
+        curve,
+        words,
+        place,
+    );
     *new_place = answer.place;
     answer.number
 }

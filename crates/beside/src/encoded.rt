@@ -1,13 +1,12 @@
 // The call that draws residues of one modulus.
-use crate::make::Made;
-use crate::make::make;
-use distr::answer::Answer;
+use crate::kind::by_kind;
 ghost use mathlib.Core.Bool.{true};
 ghost use mathlib.Core.Path.{_≡_};
 ghost use Rattle.distr.specs.Distribution.{Distr};
 ghost use Rattle.distr.specs.Draw.{encodedDraw};
 ghost use Rattle.signed_discrete_gaussian.specs.Lent.{lent};
-ghost use Rattle.beside.specs.Calls.{answered, called, named};
+ghost use Rattle.any_sampler.specs.Either.{anyAtOnce};
+ghost use Rattle.beside.specs.Calls.{answered, named};
 
 // A draw of residues of one modulus.
 #[no_mangle]
@@ -27,34 +26,21 @@ pub extern "C" fn beside_encoded(
     output: &mut [u64],
     new_place: &mut usize,
 ) -> u32
-    ensures { λ r. ⌜ answered r (now («new_place» .exit)) (now (output .exit)) ≡ called (λ (d : Distr). encodedDraw true d
+    ensures { λ r. ⌜ answered r (now («new_place» .exit)) (now (output .exit)) ≡ anyAtOnce (named kind a b p q) place (now (output .entry)) (λ (d : Distr). encodedDraw true d
         (lent (now (bounds .entry)) (now (endpoints .entry)) (now (heights .entry)) (now (curve .entry)))
-        modulus (now (words .entry)) place (now (output .entry)))
-        place (now (output .entry)) (named kind a b p q) ⌝ }
+        modulus (now (words .entry)) place (now (output .entry))) ⌝ }
 {
-    let answer = match make(kind, a, b, p, q) {
-        Made::Key(sampler) => sampler.sample_encoded_to(
-            output,
-            modulus,
-            bounds,
-            endpoints,
-            heights,
-            curve,
-            words,
-            place,
-        ),
-        Made::Error(sampler) => sampler.sample_encoded_to(
-            output,
-            modulus,
-            bounds,
-            endpoints,
-            heights,
-            curve,
-            words,
-            place,
-        ),
-        Made::Refused(number) => Answer { number, place },
-    };
+    let distr = by_kind(kind, a, b, p, q);
+    let answer = distr.draw_encoded(
+        output,
+        modulus,
+        bounds,
+        endpoints,
+        heights,
+        curve,
+        words,
+        place,
+    );
     *new_place = answer.place;
     answer.number
 }

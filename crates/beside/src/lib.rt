@@ -6,24 +6,19 @@
 mod crt;
 mod encoded;
 mod kind;
-mod make;
 mod signed;
 
 pub use crt::beside_crt;
 pub use encoded::beside_encoded;
-use make::Made;
 pub use signed::beside_signed;
 ghost use mathlib.Core.Path.{_≡_};
-ghost use Rattle.beside.specs.Calls.{madeNumber, named};
+ghost use Rattle.any_sampler.specs.Either.{numberOf};
+ghost use Rattle.beside.specs.Calls.{named};
 
 // The number of making a sampler of a kind; 14 where the kind names no distribution.
 #[no_mangle]
 pub extern "C" fn beside_make(kind: u32, a: usize, b: usize, p: f64, q: f64) -> u32
-    ensures { λ r. ⌜ r ≡ madeNumber (named kind a b p q) ⌝ }
+    ensures { λ r. ⌜ r ≡ numberOf (named kind a b p q) ⌝ }
 {
-    match make::make(kind, a, b, p, q) {
-        Made::Key(_) => 0,
-        Made::Error(_) => 0,
-        Made::Refused(number) => number,
-    }
+    kind::by_kind(kind, a, b, p, q).making_number()
 }

@@ -1,13 +1,12 @@
 // The call that draws signed coefficients.
-use crate::make::Made;
-use crate::make::make;
-use distr::answer::Answer;
+use crate::kind::by_kind;
 ghost use mathlib.Core.Bool.{true};
 ghost use mathlib.Core.Path.{_≡_};
 ghost use Rattle.distr.specs.Distribution.{Distr};
 ghost use Rattle.distr.specs.Draw.{signedDraw};
 ghost use Rattle.signed_discrete_gaussian.specs.Lent.{lent};
-ghost use Rattle.beside.specs.Calls.{answered, called, named};
+ghost use Rattle.any_sampler.specs.Either.{anyAtOnce};
+ghost use Rattle.beside.specs.Calls.{answered, named};
 
 // A draw of signed coefficients.
 #[no_mangle]
@@ -26,32 +25,12 @@ pub extern "C" fn beside_signed(
     output: &mut [i64],
     new_place: &mut usize,
 ) -> u32
-    ensures { λ r. ⌜ answered r (now («new_place» .exit)) (now (output .exit)) ≡ called (λ (d : Distr). signedDraw true d
+    ensures { λ r. ⌜ answered r (now («new_place» .exit)) (now (output .exit)) ≡ anyAtOnce (named kind a b p q) place (now (output .entry)) (λ (d : Distr). signedDraw true d
         (lent (now (bounds .entry)) (now (endpoints .entry)) (now (heights .entry)) (now (curve .entry)))
-        (now (words .entry)) place (now (output .entry)))
-        place (now (output .entry)) (named kind a b p q) ⌝ }
+        (now (words .entry)) place (now (output .entry))) ⌝ }
 {
-    let answer = match make(kind, a, b, p, q) {
-        Made::Key(sampler) => sampler.sample_signed_to(
-            output,
-            bounds,
-            endpoints,
-            heights,
-            curve,
-            words,
-            place,
-        ),
-        Made::Error(sampler) => sampler.sample_signed_to(
-            output,
-            bounds,
-            endpoints,
-            heights,
-            curve,
-            words,
-            place,
-        ),
-        Made::Refused(number) => Answer { number, place },
-    };
+    let distr = by_kind(kind, a, b, p, q);
+    let answer = distr.draw_signed(output, bounds, endpoints, heights, curve, words, place);
     *new_place = answer.place;
     answer.number
 }

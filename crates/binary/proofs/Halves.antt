@@ -2,7 +2,7 @@
 use mathlib.Core.Path.{_≡_, refl}
 use mathlib.Core.Logic.{_⊎_, inl, inr, ⊎-elim}
 use mathlib.Core.Bool.{Bool, true, false}
-use Prim.Native.Nat.{ℕ, zero, suc, _+_, _-_, _/_, _%_, _^_, _<_, _≤_}
+use Prim.Native.Nat.{ℕ, zero, suc, _+_, _*_, _-_, _/_, _%_, _^_, _<_, _≤_}
 use native.Mathlib.Omega.{arith}
 use borrow.Author.Tests.{ltb-true, ltb-false}
 use lib.Bits.{bitAnd, and-mask, and-zero-r}
@@ -41,3 +41,12 @@ module _ (end w : ℕ) (small : w < 2 ^ 64) where
       go : (t : Bool) → ltb w end ≡ t → (bound - half) / 2 ^ 63 ≡ boolByte t
       go true e = let l : w < end = ltb-true w end e in ⊎-elim (λ p. omega arith) (λ p. omega arith) cases
       go false e = let l : end ≤ w = ltb-false w end e in ⊎-elim (λ p. omega arith) (λ p. omega arith) cases
+
+-- an even end: what the bound leaves, without the last bit
+pub even-tells : (end w : ℕ) → w < 2 ^ 64 → end < 2 ^ 64 → (2 ^ 63 - 1 + end / 2 - w / 2) / 2 ^ 63 ≡ oneBelow (end / 2 * 2) w
+unfolding oneBelow
+even-tells end w small fits = go (ltb w (end / 2 * 2)) refl
+  where
+    go : (t : Bool) → ltb w (end / 2 * 2) ≡ t → (2 ^ 63 - 1 + end / 2 - w / 2) / 2 ^ 63 ≡ boolByte t
+    go true e = let l : w < end / 2 * 2 = ltb-true w (end / 2 * 2) e in omega arith
+    go false e = let l : end / 2 * 2 ≤ w = ltb-false w (end / 2 * 2) e in omega arith

@@ -11,7 +11,7 @@ use borrow.Author.Tests.{ne-eqb}
 use Rattle.distr.specs.declared.threshold.Threshold.{Threshold}
 use Rattle.distr.specs.Thresholds.{binaryValue, binary}
 use Rattle.words.specs.Reading.{thresholdValue}
-use Rattle.wide_words.specs.Answering.{wideRule, wideRead}
+use Rattle.numbers.specs.Answering.{wideRule, wideRead}
 use Rattle.binary.specs.Below.{oneBelow}
 
 -- one threshold: the rule, and the value of a word

@@ -5,7 +5,9 @@ use crate::below;
 use crate::clear;
 use crate::fill;
 use distr::answer::Answer;
+use distr::refusal::OUT_OF_WORDS;
 use distr::threshold::Threshold;
+use numbers::wide_words;
 ghost use mathlib.Core.Path.{_≡_};
 ghost use lib.ListN.{length};
 ghost use Rattle.distr.specs.Draw.{outcome, ruleDraw};
@@ -25,7 +27,7 @@ pub fn fill_binary(
         ruleDraw (held encoding) 0 (binary (thresholdValue threshold) (length (now (output .entry)))) (now (words .entry)) place (now (output .entry)) ⌝ }
 {
     let answer = wide_words::answer_of(0, !threshold.full, words.len(), place, output.len());
-    if answer.number == 23 {
+    if answer.number == OUT_OF_WORDS {
         clear(output);
         return answer;
     }

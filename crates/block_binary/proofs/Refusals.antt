@@ -12,18 +12,19 @@ use lib.IntN.{ℤ}
 use Rattle.distr.specs.declared.secret_key_distr.BlockOccupancy.{BlockOccupancy}
 use Rattle.distr.specs.declared.secret_key_distr.BlockOccupancy.the-variants.{AtMostOne, ExactlyOne}
 use Rattle.distr.specs.Blocks.{categories, blockBinary}
+use Rattle.distr.specs.Constants.{outputLimit}
 use Rattle.distr.specs.Numbers.{badBlocks}
 use Rattle.distr.specs.Draw.{Outcome, settled, ruleDraw}
 use Rattle.distr.proofs.Reading.{or-false}
 use Rattle.distr.proofs.Drawing.{not-refused}
-use Rattle.numbers.proofs.Refusing.{drawNumber, number-passed, rule-refused, rule-passed}
+use Rattle.numbers.proofs.Refusing.{drawNumber, number-by, number-passed, rule-refused, rule-passed}
 use Rattle.block_binary.proofs.Blocks.{wanted}
 
 pub record Accepted (count place n size : ℕ) : Type 0 where
   pub within : place ≤ count
   pub some : 0 < size
   pub whole : n % size ≡ 0
-  pub small : size ≤ 65536
+  pub small : size ≤ outputLimit
 
 -- a divisor of a number that is not 0
 divides : (size n : ℕ) → (n ≡ 0 → ⊥) → n % size ≡ 0 → (0 < size) × (size ≤ n)
@@ -34,11 +35,8 @@ divides (suc p) n ne e = (omega arith, go (n / suc p) (omega (arith, div-add-mod
     go zero f = absurd (ne (omega arith))
     go (suc q) f = omega arith
 
--- the first number that refuses a draw
-abbrev pub blocksNumber : ℕ → ℕ → ℕ → ℕ → ℕ
-blocksNumber count place n size = drawNumber count place n (badBlocks size n)
-
-pub accepted : (count place n size : ℕ) {k : ℕ} → k ≡ blocksNumber count place n size → k ≡ 0 → Accepted count place n size
+-- the draw's own number is that of its blocks
+accepted : (count place n size : ℕ) {k : ℕ} → k ≡ drawNumber count place n (badBlocks size n) → k ≡ 0 → Accepted count place n size
 accepted count place n size number z =
     let good = number-passed count place n (badBlocks size n) number z in
     let d = or-false (eqb n 0) (not (eqb (n % size) 0)) (not-refused _ 7 (good .2)) in
@@ -47,22 +45,29 @@ accepted count place n size number z =
     record { within = good .0; some = size-good .0; whole = whole; small = omega (arith, size-good .1, good .1) }
 
 -- the choices for a block that an output has room for
-choices-fit : (size : ℕ) (occupancy : BlockOccupancy) → size ≤ 65536 → categories size occupancy % 2 ^ 64 ≡ categories size occupancy
+choices-fit : (size : ℕ) (occupancy : BlockOccupancy) → size ≤ outputLimit → categories size occupancy % 2 ^ 64 ≡ categories size occupancy
 choices-fit size ExactlyOne h = mod-eq-of-lt (omega arith)
 choices-fit size AtMostOne h = mod-eq-of-lt (omega arith)
 
-module _ {A : Type 0} (write : List ℤ → List A) (words : List ℕ) (place size : ℕ) (occupancy : BlockOccupancy) (out : List A) {k : ℕ}
-    (number : k ≡ blocksNumber (length words) place (length out) size) where
+-- k is the first number that refuses the draw, by its own number j
+module _ {A : Type 0} (write : List ℤ → List A) (words : List ℕ) (place size : ℕ) (occupancy : BlockOccupancy) (out : List A) {j k : ℕ}
+    (own : j ≡ badBlocks size (length out)) (told : k ≡ drawNumber (length words) place (length out) j) where
   abbrev promised : Outcome A
   promised = ruleDraw write (badBlocks size (length out)) (blockBinary size occupancy (length out)) words place out
 
+  number : k ≡ drawNumber (length words) place (length out) (badBlocks size (length out))
+  number = number-by (length words) place (length out) j (badBlocks size (length out)) own told
+
   pub refused : (k ≡ 0 → ⊥) → record { number = k; place = place; output = out } ≡ promised
   refused = rule-refused write (badBlocks size (length out)) words place out number (blockBinary size occupancy (length out))
+
+  pub ready : k ≡ 0 → Accepted (length words) place (length out) size
+  ready = accepted (length words) place (length out) size number
 
   -- what the blocks give is the draw
   pub drawn : {choices : ℕ} {o : Outcome A} → k ≡ 0 → choices ≡ categories size occupancy % 2 ^ 64
       → o ≡ settled write (length words) place (length out) (wanted size choices (length out) (drop place words)) → o ≡ promised
   drawn z e s =
-      s ∙ ap (λ (j : ℕ). settled write (length words) place (length out) (wanted size j (length out) (drop place words)))
-      (e ∙ choices-fit size occupancy (accepted (length words) place (length out) size number z .small))
+      s ∙ ap (λ (i : ℕ). settled write (length words) place (length out) (wanted size i (length out) (drop place words)))
+      (e ∙ choices-fit size occupancy (ready z .small))
       ∙ rule-passed write (badBlocks size (length out)) words place out number (blockBinary size occupancy (length out)) z

@@ -3,6 +3,9 @@ use crate::Encoding;
 use crate::Out;
 use crate::clear;
 use distr::answer::Answer;
+use distr::answer::refused;
+use distr::answer::succeeded;
+use distr::refusal::OUT_OF_WORDS;
 use words::Taken;
 ghost use mathlib.Core.Path.{_≡_};
 ghost use Prim.Native.Nat.{_%_, _/_, _≤_, _<_};
@@ -52,12 +55,9 @@ pub(crate) fn draw_blocks(
             }
             Taken::Short => {
                 clear(output);
-                return Answer { number: 23, place };
+                return refused(OUT_OF_WORDS, place);
             }
         }
     }
-    Answer {
-        number: 0,
-        place: at,
-    }
+    succeeded(at)
 }

@@ -4,6 +4,7 @@ use crate::Encoding;
 use crate::Out;
 use crate::blocks;
 use distr::answer::Answer;
+use distr::answer::refused;
 use distr::secret_key_distr::BlockOccupancy;
 ghost use mathlib.Core.Path.{_≡_};
 ghost use lib.ListN.{length};
@@ -28,7 +29,7 @@ pub fn sample_block_binary_values_to(
     let own = numbers::block_number(block_size, output.len());
     let number = numbers::draw_number(words.len(), place, output.len(), own);
     if number != 0 {
-        return Answer { number, place };
+        return refused(number, place);
     }
     let choices = block_binary::category_count(block_size, occupancy);
     blocks::draw_blocks(output, encoding, block_size, choices, words, place)

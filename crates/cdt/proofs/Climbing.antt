@@ -3,23 +3,60 @@ use mathlib.Core.Path.{_≡_, refl, ap, _∙_}
 use mathlib.Core.Logic.{⊎-elim}
 use mathlib.Core.Bool.{Bool, true, false}
 use mathlib.Core.List.{List}
-use Prim.Native.Nat.{ℕ, _+_, _-_, _*_, _/_, _^_, _<_, _≤_}
-use native.Mathlib.Nat.{div-add-mod', eq-or-lt-of-le}
+use Prim.Native.Nat.{ℕ, zero, suc, _+_, _-_, _*_, _/_, _%_, _^_, _<_, _≤_}
+use native.Mathlib.Nat.{add-comm, div-add-mod', eq-or-lt-of-le}
+use native.Mathlib.Numerals.{add-one}
 use native.Mathlib.Omega.{arith}
-use lib.Dec.{T, leb}
-use lib.ListN.{length, getD, set, replicate, length-set, length-replicate}
-use lib.Seq.{getD-set-same, getD-set-other}
-use borrow.Author.Tests.{leb-true, leb-false}
-use Rattle.distr.specs.Gaussian.{cumulativeTable, magnitude}
+use lib.Dec.{T, leb, ltb, eqb}
+use lib.ListN.{length, getD, take, drop, set, replicate, length-set, length-replicate, length-take, length-drop, drop-of-length-le}
+use lib.Seq.{drop-cons, getD-take, getD-drop, getD-set-same, getD-set-other}
+use borrow.Author.Tests.{leb-true, leb-false, ltb-true, ltb-false, lt-ltb, le-ltb}
+use Rattle.distr.specs.Gaussian.{cumulativeTable, magnitude, withSign, cumulativeValue}
 use Rattle.distr.proofs.Rising.{Rising, is-rising, Largest, largest, rises}
-use Rattle.cdt.specs.Guided.{GuidedTo, Guided}
+use Rattle.cdt.specs.declared.index.Sampled.{Sampled}
+use Rattle.cdt.specs.Guided.{intervalEnds, climbed, guideAt, sampledBy}
 
--- the first k entries of a guide are in, and the place is not past the next
-pub record Filling (bounds : List ℕ) (top : ℕ) (guide : List ℕ) (place k : ℕ) : Type 0 where
+-- a place that is not the last: the search stops there, or goes on from the next
+pub climb-stop : (ends : List ℕ) (word at : ℕ) → at < length ends → word < getD ends at 0 → climbed (drop at ends) word at ≡ at
+unfolding climbed
+climb-stop ends word at h l = rw (drop-cons ends at 0 h, lt-ltb word (getD ends at 0) l)
+
+pub climb-on : (ends : List ℕ) (word at : ℕ) → at < length ends → getD ends at 0 ≤ word
+    → climbed (drop at ends) word at ≡ climbed (drop (suc at) ends) word (suc at)
+unfolding climbed
+climb-on ends word at h l = rw (drop-cons ends at 0 h, le-ltb word (getD ends at 0) l)
+
+-- past the last
+pub climb-end : (ends : List ℕ) (word at : ℕ) → length ends ≤ at → climbed (drop at ends) word at ≡ at
+unfolding climbed
+climb-end ends word at h = rw (drop-of-length-le ends {i = at} h)
+
+-- the first k entries of a guide are in, and the search for the next goes on from `place`
+pub record Filling (ends guide : List ℕ) (place k : ℕ) : Type 0 where
   pub long : length guide ≡ 256
   pub most : k ≤ 256
-  pub before : place ≤ magnitude bounds top (k * 2 ^ 56)
-  pub entries : GuidedTo k bounds top guide
+  pub next : climbed (drop place ends) (k * 2 ^ 56) place ≡ guideAt ends k
+  pub entries : (j : ℕ) → j < k → getD guide j 0 ≡ guideAt ends j
+
+pub filling-none : (ends guide : List ℕ) → guide ≡ replicate 256 0 → Filling ends guide 0 0
+unfolding guideAt
+filling-none ends guide e = record {
+  long = ap length e ∙ length-replicate {A = ℕ} 256 0;
+  most = omega arith;
+  next = refl;
+  entries = λ j h. absurd (omega arith);
+}
+
+pub filling-more : (ends guide : List ℕ) (place k : ℕ) {found : ℕ} → Filling ends guide place k → k < 256
+    → found ≡ climbed (drop place ends) (k * 2 ^ 56) place → Filling ends (set guide k found) found (k + 1)
+unfolding guideAt
+filling-more ends guide place k {found} f h e = record {
+  long = length-set guide k found ∙ f .long;
+  most = omega arith;
+  next = rw (add-one k, e, f .next);
+  entries = λ j l. ⊎-elim (λ (p : j ≡ k). rw p (getD-set-same guide k found 0 (omega (arith, f .long)) ∙ e ∙ f .next))
+      (λ (p : j < k). getD-set-other guide k j found 0 (λ q. omega arith) ∙ f .entries j p) (eq-or-lt-of-le (omega arith));
+}
 
 module _ (bounds : List ℕ) (top : ℕ) (t : T (cumulativeTable top bounds)) where
   table : Rising (top + 2) (2 ^ 64 - 1) bounds
@@ -31,11 +68,17 @@ module _ (bounds : List ℕ) (top : ℕ) (t : T (cumulativeTable top bounds)) wh
   found : (w : ℕ) → Largest bounds top w (magnitude bounds top w)
   found w = largest bounds top w (omega (arith, table .first))
 
-  pub magnitude-top : (w : ℕ) → magnitude bounds top w ≤ top
+  magnitude-top : (w : ℕ) → magnitude bounds top w ≤ top
   magnitude-top w = found w .top
 
+  abbrev ends : List ℕ
+  ends = intervalEnds top bounds
+
+  long : length ends ≡ top
+  long = simp (length-take, length-drop) (omega (arith, table-length))
+
   -- a bound at most the word stands at the magnitude or below it
-  pub at-most : (w j : ℕ) → j ≤ top → getD bounds j 0 ≤ w → j ≤ magnitude bounds top w
+  at-most : (w j : ℕ) → j ≤ top → getD bounds j 0 ≤ w → j ≤ magnitude bounds top w
   at-most w j h k = go (leb j (magnitude bounds top w)) refl
     where
       go : (b : Bool) → leb j (magnitude bounds top w) ≡ b → j ≤ magnitude bounds top w
@@ -55,36 +98,53 @@ module _ (bounds : List ℕ) (top : ℕ) (t : T (cumulativeTable top bounds)) wh
       go false e = leb-false j (magnitude bounds top w) e
 
   -- the place below such a bound is the magnitude, and so is the top
-  pub stopped : (w j : ℕ) → j ≤ magnitude bounds top w → j < top → w < getD bounds (j + 1) 0 → j ≡ magnitude bounds top w
+  stopped : (w j : ℕ) → j ≤ magnitude bounds top w → j < top → w < getD bounds (j + 1) 0 → j ≡ magnitude bounds top w
   stopped w j h l k = omega (arith, past w (j + 1) (omega arith) k)
 
-  pub at-top : (w j : ℕ) → j ≤ magnitude bounds top w → top ≤ j → j ≡ magnitude bounds top w
+  at-top : (w j : ℕ) → j ≤ magnitude bounds top w → top ≤ j → j ≡ magnitude bounds top w
   at-top w j h l = omega (arith, magnitude-top w)
 
   -- a larger word has no smaller magnitude
-  pub grows : (v w : ℕ) → v ≤ w → magnitude bounds top v ≤ magnitude bounds top w
+  grows : (v w : ℕ) → v ≤ w → magnitude bounds top v ≤ magnitude bounds top w
   grows v w h = at-most w (magnitude bounds top v) (magnitude-top v) (omega (arith, found v .reached))
 
-  -- an entry of the guide is not past the magnitude of a word with its bits
-  pub guided-start : (guide : List ℕ) → Guided bounds top guide → (w : ℕ) → w < 2 ^ 64 → getD guide (w / 2 ^ 56) 0 ≤ magnitude bounds top w
-  guided-start guide g w h =
-      rw (g (w / 2 ^ 56) (omega arith)) (grows (w / 2 ^ 56 * 2 ^ 56) w (omega (arith, div-add-mod' w (2 ^ 56))))
+  -- from a place that is not past it the search comes to the magnitude: it stops there, or goes on
+  step : (w j : ℕ) → j < top → j ≤ magnitude bounds top w → (suc j ≤ magnitude bounds top w → climbed (drop (suc j) ends) w (suc j) ≡ magnitude bounds top w)
+      → climbed (drop j ends) w j ≡ magnitude bounds top w
+  step w j h l on = go (ltb w (getD bounds (j + 1) 0)) refl
+    where
+      end : getD ends j 0 ≡ getD bounds (j + 1) 0
+      end = getD-take top (drop 1 bounds) j 0 h ∙ getD-drop 1 bounds j 0 ∙ ap (λ (i : ℕ). getD bounds i 0) (add-comm 1 j)
 
-  -- at first none is in, and one more goes in
-  pub filling-none : (guide : List ℕ) → guide ≡ replicate 256 0 → Filling bounds top guide 0 0
-  filling-none guide e = record {
-    long = ap length e ∙ length-replicate {A = ℕ} 256 0;
-    most = omega arith;
-    before = omega arith;
-    entries = λ j h. absurd (omega arith);
-  }
+      go : (b : Bool) → ltb w (getD bounds (j + 1) 0) ≡ b → climbed (drop j ends) w j ≡ magnitude bounds top w
+      go true t = climb-stop ends w j (omega (arith, long)) (rw end (ltb-true _ _ t)) ∙ stopped w j l h (ltb-true _ _ t)
+      go false t =
+          climb-on ends w j (omega (arith, long)) (rw end (ltb-false _ _ t))
+          ∙ on (rw (← add-one j) (at-most w (j + 1) (omega arith) (ltb-false _ _ t)))
 
-  pub filling-more : (guide : List ℕ) (place k next : ℕ) → Filling bounds top guide place k → k < 256 → next ≡ magnitude bounds top (k * 2 ^ 56)
-      → Filling bounds top (set guide k next) next (k + 1)
-  filling-more guide place k next f h e = record {
-    long = length-set guide k next ∙ f .long;
-    most = omega arith;
-    before = rw e (grows (k * 2 ^ 56) ((k + 1) * 2 ^ 56) (omega arith));
-    entries = λ j l. ⊎-elim (λ (p : j ≡ k). rw p (getD-set-same guide k next 0 (omega (arith, f .long)) ∙ e))
-        (λ (p : j < k). getD-set-other guide k j next 0 (λ q. omega arith) ∙ f .entries j p) (eq-or-lt-of-le (omega arith));
-  }
+  climb : (w m j : ℕ) → j + m ≡ top → j ≤ magnitude bounds top w → climbed (drop j ends) w j ≡ magnitude bounds top w
+  climb w zero j e h = climb-end ends w j (omega (arith, long)) ∙ at-top w j h (omega arith)
+  climb w (suc m) j e h = step w j (omega arith) h (climb w m (suc j) (omega arith))
+
+  found-from : (w j : ℕ) → j ≤ magnitude bounds top w → climbed (drop j ends) w j ≡ magnitude bounds top w
+  found-from w j h = climb w (top - j) j (omega (arith, magnitude-top w)) h
+
+  -- an entry of the guide is the magnitude of its word, and not past that of another word with its bits
+  guide-entry : (k : ℕ) → guideAt ends k ≡ magnitude bounds top (k * 2 ^ 56)
+  unfolding guideAt
+  guide-entry zero = found-from 0 0 (omega arith)
+  guide-entry (suc k) = rw (guide-entry k) (found-from (suc k * 2 ^ 56) _ (grows (k * 2 ^ 56) (suc k * 2 ^ 56) (omega arith)))
+
+  -- what is sampled by the guide of these intervals is the rule's coefficient
+  module _ (size : ℕ) (all : size ≡ top) (guide : List ℕ) (made : (k : ℕ) → k < 256 → getD guide k 0 ≡ guideAt (intervalEnds size bounds) k)
+      (w : ℕ) (small : w < 2 ^ 64) {s : Sampled} (e : s ≡ sampledBy (intervalEnds size bounds) guide w) where
+    start : getD guide (w / 2 ^ 56) 0 ≤ magnitude bounds top w
+    start =
+        rw (made (w / 2 ^ 56) (omega arith), all, guide-entry (w / 2 ^ 56))
+        (grows (w / 2 ^ 56 * 2 ^ 56) w (omega (arith, div-add-mod' w (2 ^ 56))))
+
+    reached : s .magnitude ≡ magnitude bounds top w
+    reached = rw (e, all) (found-from w (getD guide (w / 2 ^ 56) 0) start)
+
+    pub sampled-held : (s .magnitude ≤ top) × (withSign (s .positive) (s .magnitude) ≡ cumulativeValue top bounds w)
+    sampled-held = (rw reached (magnitude-top w), rw (reached, e))

@@ -2,15 +2,13 @@
 // this file names the output's type, the others are one text for every type.
 use cdt::table_number;
 use distr::answer::Answer;
+use distr::refusal::OUT_OF_WORDS;
+use numbers::wide_words;
 ghost use mathlib.Core.Path.{_≡_};
-ghost use mathlib.Core.Bool.{not};
-ghost use lib.ListN.{length};
-ghost use Rattle.distr.specs.Gaussian.{cumulative, cumulativeTable};
-ghost use Rattle.distr.specs.Making.{refuse};
-ghost use Rattle.distr.specs.Draw.{outcome, ruleDraw};
+ghost use Rattle.distr.specs.Draw.{outcome};
+ghost use Rattle.cdt.specs.Drawn.{cumulativeDraw};
 ghost use Rattle.output_u64.specs.Out.{held};
 
-mod index;
 mod store;
 
 pub(crate) use output_u64::Encoding;
@@ -28,8 +26,7 @@ pub fn sample_cdt_to(
     place: usize,
 ) -> Answer
     ensures { λ r. ⌜ outcome r (now (output .exit)) ≡
-        ruleDraw (held encoding) (refuse (not (cumulativeTable «maximum_magnitude» (now (bounds .entry)))) 12)
-        (cumulative «maximum_magnitude» (now (bounds .entry)) (length (now (output .entry)))) (now (words .entry)) place (now (output .entry)) ⌝ }
+        cumulativeDraw (held encoding) «maximum_magnitude» (now (bounds .entry)) (now (words .entry)) place (now (output .entry)) ⌝ }
 {
     let own = table_number(maximum_magnitude, bounds);
     let answer = wide_words::answer_of(own, true, words.len(), place, output.len());
@@ -44,7 +41,7 @@ pub fn sample_cdt_to(
         );
         return answer;
     }
-    if answer.number == 23 {
+    if answer.number == OUT_OF_WORDS {
         clear(output);
     }
     answer

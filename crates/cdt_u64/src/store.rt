@@ -2,14 +2,16 @@
 use crate::Encoding;
 use crate::Out;
 use crate::coefficient;
-use crate::index;
+use cdt::index::make_guide;
+use cdt::index::sample_magnitude;
+use words::wide_word;
 ghost use mathlib.Core.Path.{_≡_};
 ghost use Prim.Native.Nat.{_+_, _*_, _≤_};
 ghost use lib.Dec.{T};
 ghost use lib.ListN.{length, drop};
 ghost use Rattle.distr.specs.Gaussian.{cumulativeTable, cumulativeValue};
 ghost use Rattle.distr.specs.Words.{got};
-ghost use Rattle.wide_words.specs.Answering.{wideRead};
+ghost use Rattle.numbers.specs.Answering.{wideRead};
 ghost use Rattle.output_u64.specs.Out.{heldOne};
 
 // Each element by a 64-bit word, as the encoding holds it. The caller has counted the words.
@@ -26,11 +28,14 @@ pub(crate) fn fill(
         got (now (output .exit)) (drop (place + 2 * length (now (output .entry))) (now (words .entry))) ⌝ }
 {
     let n = output.len();
-    let guide = index::make_guide(bounds, top);
+    let last = top + 1;
+    let ends = &bounds[1..last];
+    let guide = make_guide(ends);
     let mut i: usize = 0;
     let mut at = place;
     while i < n {
-        let sampled = index::sample_magnitude(bounds, top, &guide, words[at], words[at + 1]);
+        let word = wide_word(words[at], words[at + 1]);
+        let sampled = sample_magnitude(ends, &guide, word);
         output[i] = coefficient(encoding, sampled.positive, sampled.magnitude);
         i += 1;
         at += 2;

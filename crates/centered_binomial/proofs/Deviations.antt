@@ -12,7 +12,7 @@ use lib.ListN.{getD}
 use lib.Ieee.{Float, nan, binary64, round, toBits, ofBits}
 use lib.Ieee.Bits.{ofBits-toBits}
 use lib.Ieee.Fits.{round-fits, and-l, and-r}
-use Rattle.distr.specs.Gaussian.{literal}
+use Rattle.distr.specs.Constants.{literal}
 use Rattle.centered_binomial.specs.Binomial.{etaNumber}
 use Rattle.centered_binomial.specs.Deviation.{oneMore, root, scaledRoot, binomialDeviation, NearestRoot}
 use Rattle.centered_binomial.proofs.Made.{eta-range}

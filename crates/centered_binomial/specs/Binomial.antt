@@ -9,7 +9,9 @@ use lib.IntN.{ℤ}
 use Rattle.distr.specs.declared.error_distribution.ErrorDistribution.the-variants.{CenteredBinomial as BinomialOf}
 use Rattle.distr.specs.Making.{errorNumber}
 use Rattle.distr.specs.CenteredBinomial.{centeredBinomial}
-use Rattle.distr.specs.Draw.{Outcome, ruleDraw}
+use Rattle.distr.specs.Constants.{neverMade}
+use Rattle.distr.specs.Answers.{refusal}
+use Rattle.distr.specs.Draw.{Outcome, outcome, ruleDraw}
 use Rattle.centered_binomial.specs.declared.CenteredBinomialParameters.{CenteredBinomialParameters}
 use Rattle.centered_binomial.specs.declared.MadeBinomial.{MadeBinomial}
 
@@ -33,7 +35,7 @@ isMadeBinomial s = eqb (etaNumber (s .eta)) 0 && eqb (s .mask) (2 ^ (s .eta) - 1
 abbrev pub binomialDraw : {A : Type 0} → (List ℤ → List A) → CenteredBinomialParameters → List ℕ → ℕ → List A → Outcome A
 binomialDraw write s words place out =
     cond (isMadeBinomial s) (ruleDraw write 0 (centeredBinomial (s .eta) (length out)) words place out)
-    (record { number = 21; place = place; output = out })
+    (outcome (refusal neverMade place) out)
 
 -- The mask of "the next eta bits".
 abbrev pub upperMask : CenteredBinomialParameters → ℕ

@@ -4,7 +4,7 @@ use mathlib.Core.Path.{_≡_}
 use mathlib.Core.Bool.{cond}
 use lib.Dec.{leb}
 use lib.Ieee.{Float}
-use Rattle.distr.specs.Gaussian.{literal}
+use Rattle.distr.specs.Constants.{literal, etaLimit}
 
 -- r, or r + 1 where its square is still within n.
 abbrev pub oneMore : ℕ → ℕ → ℕ
@@ -21,7 +21,7 @@ scaledRoot eta = root 64 (eta * 2 ^ 119)
 
 -- The Rust's `(f64::from(eta) / 2.0).sqrt()`, for eta up to 32.
 abbrev pub binomialDeviation : ℕ → Float
-binomialDeviation eta = cond (leb eta 32) (literal (scaledRoot eta) (2 ^ 60)) (literal 0 1)
+binomialDeviation eta = cond (leb eta etaLimit) (literal (scaledRoot eta) (2 ^ 60)) (literal 0 1)
 
 -- x is the f64 nearest to the root of eta / 2: the root lies from r / 2^60 to (r + 1) / 2^60, and both of these are rounded to x.
 pub record NearestRoot (eta : ℕ) (x : Float) : Type 0 where

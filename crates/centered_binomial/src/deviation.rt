@@ -1,4 +1,5 @@
 // The standard deviation of the centered binomial: the square root of its variance, eta / 2.
+use distr::limits::MAX_ETA;
 ghost use mathlib.Core.Path.{_≡_};
 ghost use Rattle.centered_binomial.specs.Binomial.{etaNumber};
 ghost use Rattle.centered_binomial.specs.Deviation.{binomialDeviation, NearestRoot};
@@ -45,7 +46,7 @@ const DEVIATIONS: [f64; 33] = [
 pub fn standard_deviation(eta: u32) -> f64
     ensures { λ r. ⌜ (r ≡ binomialDeviation eta) × (etaNumber eta ≡ 0 → NearestRoot eta r) ⌝ }
 {
-    if eta <= 32 {
+    if eta <= MAX_ETA {
         let at = eta as usize;
         DEVIATIONS[at]
     } else {

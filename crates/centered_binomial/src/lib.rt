@@ -2,7 +2,8 @@
 // output type. A coefficient is the ones of eta bits minus the ones of the next eta bits, a 64-bit word for each.
 pub mod deviation;
 
-ghost use Prim.Native.Nat.{_+_, _*_, _^_};
+use distr::limits::MAX_ETA;
+use distr::refusal::INVALID_ETA;
 ghost use mathlib.Core.Path.{_≡_};
 ghost use mathlib.Core.Bool.{cond};
 ghost use lib.Bits.{bitAnd};
@@ -32,7 +33,7 @@ impl CenteredBinomialParameters {
     pub fn new(eta: u32) -> MadeBinomial
         ensures { λ r. ⌜ r ≡ making eta ⌝ }
     {
-        if (1 <= eta) & (eta <= 32) {
+        if (1 <= eta) & (eta <= MAX_ETA) {
             MadeBinomial {
                 number: 0,
                 parameters: CenteredBinomialParameters {
@@ -42,7 +43,7 @@ impl CenteredBinomialParameters {
             }
         } else {
             MadeBinomial {
-                number: 4,
+                number: INVALID_ETA,
                 parameters: CenteredBinomialParameters { eta: 0, mask: 0 },
             }
         }
@@ -55,13 +56,6 @@ pub fn is_made(parameters: CenteredBinomialParameters) -> bool
 {
     let made = CenteredBinomialParameters::new(parameters.eta);
     (made.number == 0) & (parameters.mask == made.parameters.mask)
-}
-
-// The 64-bit word of two words, low half first.
-pub fn wide_of(low: u32, high: u32) -> u64
-    ensures { λ r. ⌜ r ≡ low + high * 2 ^ 32 ⌝ }
-{
-    low as u64 + high as u64 * 0x1_0000_0000
 }
 
 // The mask of the eta bits above those of the mask, or 0 for parameters that making never gives.

@@ -5,6 +5,10 @@ use crate::clear;
 use crate::store;
 use centered_binomial::CenteredBinomialParameters;
 use distr::answer::Answer;
+use distr::answer::refused;
+use distr::refusal::NEVER_MADE;
+use distr::refusal::OUT_OF_WORDS;
+use numbers::wide_words;
 ghost use mathlib.Core.Path.{_≡_};
 ghost use Rattle.distr.specs.Draw.{outcome};
 ghost use Rattle.centered_binomial.specs.Binomial.{binomialDraw};
@@ -21,14 +25,14 @@ pub fn sample_binomial_to(
     ensures { λ r. ⌜ outcome r (now (output .exit)) ≡ binomialDraw (held encoding) parameters (now (words .entry)) place (now (output .entry)) ⌝ }
 {
     if !centered_binomial::is_made(parameters) {
-        return Answer { number: 21, place };
+        return refused(NEVER_MADE, place);
     }
     let answer = wide_words::answer_of(0, true, words.len(), place, output.len());
     if answer.number == 0 {
         store::fill(output, encoding, parameters, words, place);
         return answer;
     }
-    if answer.number == 23 {
+    if answer.number == OUT_OF_WORDS {
         clear(output);
     }
     answer

@@ -3,12 +3,13 @@ use crate::Encoding;
 use crate::Out;
 use crate::difference;
 use centered_binomial::CenteredBinomialParameters;
+use words::wide_word;
 ghost use mathlib.Core.Path.{_≡_};
 ghost use Prim.Native.Nat.{_+_, _*_};
 ghost use lib.ListN.{length, drop};
 ghost use Rattle.distr.specs.CenteredBinomial.{binomialValue};
 ghost use Rattle.distr.specs.Words.{got};
-ghost use Rattle.wide_words.specs.Answering.{wideRead};
+ghost use Rattle.numbers.specs.Answering.{wideRead};
 ghost use Rattle.centered_binomial.specs.Binomial.{Ready};
 ghost use Rattle.output_u64.specs.Out.{heldOne};
 
@@ -29,7 +30,7 @@ pub(crate) fn fill(
     let mut i = 0;
     while i < n {
         let at = place + 2 * i;
-        let word = centered_binomial::wide_of(words[at], words[at + 1]);
+        let word = wide_word(words[at], words[at + 1]);
         let ones = centered_binomial::ones_of(parameters, upper, word);
         output[i] = difference(encoding, ones.first, ones.second);
         i += 1;

@@ -14,29 +14,29 @@ use Rattle.counts.specs.DrawLists.{Exactly}
 use Rattle.counts.specs.Inside.{inside}
 use Rattle.counts.specs.Formula.{formula, secretFormula}
 use Rattle.counts.proofs.Choices.{choice-each, choice-others}
-use Rattle.draw_laws.proofs.Making.{Makes, making}
-use Rattle.secret_key_sampler.proofs.Made.{made-number, makes}
-use Rattle.error_sampler.proofs.Made.{made-number as made-error-number, makes as error-makes}
+use Rattle.draw_laws.proofs.Making.{Makes, good, good-number, preparedSampler, prepared-good, making}
+use Rattle.secret_key_sampler.proofs.Made.{makes}
+use Rattle.error_sampler.proofs.Made.{makes as error-makes}
 use Rattle.certificate.specs.Certificate.{Accepted, Demand3, Reaching, ForSampler, Certificate}
 use Rattle.certificate.proofs.Reached.{demand-3, accepted}
 
 -- a sampler of either kind: what is made passes its test, so its requests are accepted
-module _ {D S R : Type 0} (k : Makes D S R) (is-made : (s : S) → T (k .good s) → makingNumber (k .kind (k .distrOf s)) ≡ 0) where
-  for-sampler : ForSampler S D (k .kind) (k .distrOf) (k .good) (λ d s. making k d ≡ k .made 0 s)
+module _ {D M S R : Type 0} (k : Makes D M S R) where
+  for-sampler : ForSampler S D (k .kind) (k .distrOf) (good k) (λ d s. making k d ≡ k .made 0 s)
   for-sampler = record {
     every-request = every;
     requests-exist = λ d n tables z numbers no-layers.
-        let s = k .own d in
+        let s = preparedSampler k d in
         let judged : k .judge d ≡ 0 = sym (k .judges d) ∙ z in
-        let ok : Accepted (k .good s) (k .kind (k .distrOf s)) n (tables .bounds) =
-        subst (λ (e : D). Accepted (k .good s) (k .kind e) n (tables .bounds)) (sym (k .own-distr d))
-        (subst (λ (b : Bool). Accepted b (k .kind d) n (tables .bounds)) (sym (T-true (k .good s) (k .own-good d judged)))
+        let ok : Accepted (good k s) (k .kind (k .distrOf s)) n (tables .bounds) =
+        subst (λ (e : D). Accepted (good k s) (k .kind e) n (tables .bounds)) (sym (k .distr-of d (k .prepared d)))
+        (subst (λ (b : Bool). Accepted b (k .kind d) n (tables .bounds)) (sym (T-true (good k s) (prepared-good k d judged)))
         (accepted (k .kind d) n tables numbers no-layers)) in
         (s, rw (eq-eqb (k .judge d) 0 judged), ok, every s n (tables .bounds) ok);
   }
     where
-      every : (s : S) (n : ℕ) (bounds : List ℕ) → Accepted (k .good s) (k .kind (k .distrOf s)) n bounds → Demand3 (k .good s) (k .kind (k .distrOf s)) n bounds
-      every s n bounds ok = demand-3 (k .good s) (k .kind (k .distrOf s)) n bounds (is-made s) ok
+      every : (s : S) (n : ℕ) (bounds : List ℕ) → Accepted (good k s) (k .kind (k .distrOf s)) n bounds → Demand3 (good k s) (k .kind (k .distrOf s)) n bounds
+      every s n bounds ok = demand-3 (good k s) (k .kind (k .distrOf s)) n bounds (good-number k s) ok
 
 -- the formula's number of draw lists reach a list inside the distribution
 inside-exactly : (made : Bool) (d : Distr) (n : ℕ) (bounds : List ℕ) (cs : List ℤ) → Demand3 made d n bounds → T (inside d n cs)
@@ -57,9 +57,9 @@ compositions made minus ones n bounds cs cs′ ok i i′ =
 
 pub certificate : Certificate
 certificate = record {
-  secret-keys = for-sampler makes made-number;
-  errors = for-sampler error-makes made-error-number;
-  compositions = λ s minus ones n bounds cs cs′ e. compositions (makes .good s) minus ones n bounds cs cs′;
+  secret-keys = for-sampler makes;
+  errors = for-sampler error-makes;
+  compositions = λ s minus ones n bounds cs cs′ e. compositions (good makes s) minus ones n bounds cs cs′;
   choices = λ k l u. record { each = choice-each k l; others = λ w h. choice-others k l w };
   secret-key-draws = (λ κs before. refl, λ κs before answer after. refl);
   error-draws = (λ κs before. refl, λ κs before answer after. refl);

@@ -11,7 +11,8 @@ use Rattle.distr.specs.declared.secret_key_distr.SecretKeyDistr.the-variants.{F
 use Rattle.distr.specs.Words.{mapRead, bindRead, choose, chooseEach, areWords}
 use Rattle.distr.specs.Packed.{minusOne}
 use Rattle.distr.specs.Insertion.{countUp, fixedComposition}
-use Rattle.distr.specs.Gaussian.{literal, neverFalls}
+use Rattle.distr.specs.Constants.{literal}
+use Rattle.distr.specs.Gaussian.{neverFalls}
 use Rattle.distr.specs.Distribution.{secret, Tables, onDeviation}
 use Rattle.distr.specs.Making.{makingNumber, secretNumber}
 use Rattle.distr.specs.Numbers.{firstOf, lengthNumber, tableNumber}

@@ -14,7 +14,8 @@ use Rattle.distr.specs.declared.secret_key_distr.SecretKeyDistr.the-variants.{U
 use Rattle.distr.specs.declared.error_distribution.ErrorDistribution.the-variants.{CenteredBinomial, Gaussian as ErrorGaussian}
 use Rattle.distr.specs.Words.{Read, got, short, mapRead}
 use Rattle.distr.specs.Rule.{Rule, readBy}
-use Rattle.distr.specs.Gaussian.{support, cumulativeLimit, cumulativeTable, cumulative}
+use Rattle.distr.specs.Constants.{cumulativeLimit}
+use Rattle.distr.specs.Gaussian.{support, cumulativeTable, cumulative}
 use Rattle.distr.specs.Layered.{layerTables}
 use Rattle.distr.specs.Distribution.{Distr, secret, error, Tables, onDeviation, isLayered, gaussianRead, coefficients, rule, secretRule, errorRule}
 use Rattle.distr.specs.Making.{refuse, makingNumber}

@@ -149,9 +149,9 @@ pub record Certificate : Type 1 where
   pub error-draws : Contract 6 (SignedArguments ErrorSampler) Answer (SignedCall isMadeError (λ s. error (s .distribution)))
       error-sample-signed-to.Pre error-sample-signed-to.Post
   -- making
-  pub secret-key-making : Contract 0 (SecretKeyDistr × Unit {0}) _ (λ before made after. made ≡ making (before .0))
+  pub secret-key-making : Contract 0 (SecretKeyDistr × Unit {0}) _ (λ before answer after. answer ≡ making (before .0))
       secret-key-try-new.Pre secret-key-try-new.Post
-  pub error-making : Contract 0 (ErrorDistribution × Unit {0}) _ (λ before made after. made ≡ makingError (before .0))
+  pub error-making : Contract 0 (ErrorDistribution × Unit {0}) _ (λ before answer after. answer ≡ makingError (before .0))
       error-try-new.Pre error-try-new.Post
   -- the bounded choice
   pub bounded-choice : Contract 1 ChoiceArguments Taken BoundedChoice uniform-below.Pre uniform-below.Post

@@ -1,5 +1,6 @@
 // Residues of a modulus, -1 as modulus - 1. Numbers in order: those of making (1 or 5), then 22, 6, 7 or 8, 9, 23.
 use distr::answer::Answer;
+use distr::answer::refused;
 use distr::secret_key_distr::BlockOccupancy;
 use distr::secret_key_distr::SecretKeyDistr;
 use secret_key_sampler::SecretKeySampler;
@@ -8,7 +9,7 @@ ghost use Rattle.distr.specs.declared.secret_key_distr.SecretKeyDistr.the-varia
 ghost use Rattle.distr.specs.Distribution.{secret};
 ghost use Rattle.distr.specs.Draw.{outcome, encodedAtOnce};
 
-// The same as for signed coefficients, by the sampler's encoded draw.
+// Makes the sampler of a distribution and draws residues by it; the number of making comes before those of the draw.
 fn sample_at_once(
     output: &mut [u64],
     modulus: u64,
@@ -21,7 +22,7 @@ fn sample_at_once(
     let made = SecretKeySampler::try_new(distr);
     let number = made.number;
     if number != 0 {
-        return Answer { number, place };
+        return refused(number, place);
     }
     let sampler = made.sampler;
     sampler.sample_encoded_to(output, modulus, &[], &[], &[], &[], words, place)
@@ -49,13 +50,8 @@ pub fn sample_binary_values_with_probability_to(
 ) -> Answer
     ensures { λ r. ⌜ outcome r (now (output .exit)) ≡ encodedAtOnce (secret (Binary «one_probability»)) modulus (now (words .entry)) place (now (output .entry)) ⌝ }
 {
-    sample_at_once(
-        output,
-        modulus,
-        SecretKeyDistr::Binary { one_probability },
-        words,
-        place,
-    )
+    let distr = SecretKeyDistr::Binary { one_probability };
+    sample_at_once(output, modulus, distr, words, place)
 }
 
 // Exactly hamming_weight ones. A weight over the length gives 7.
@@ -68,13 +64,8 @@ pub fn sample_fixed_hamming_weight_binary_values_to(
 ) -> Answer
     ensures { λ r. ⌜ outcome r (now (output .exit)) ≡ encodedAtOnce (secret (FixedHammingWeightBinary «hamming_weight»)) modulus (now (words .entry)) place (now (output .entry)) ⌝ }
 {
-    sample_at_once(
-        output,
-        modulus,
-        SecretKeyDistr::FixedHammingWeightBinary { hamming_weight },
-        words,
-        place,
-    )
+    let distr = SecretKeyDistr::FixedHammingWeightBinary { hamming_weight };
+    sample_at_once(output, modulus, distr, words, place)
 }
 
 // Blocks with a one at a chosen place, or with none where the occupancy allows it. A bad block size gives 5, a bad length 8.
@@ -88,16 +79,11 @@ pub fn sample_block_binary_values_to(
 ) -> Answer
     ensures { λ r. ⌜ outcome r (now (output .exit)) ≡ encodedAtOnce (secret (BlockBinary «block_size» occupancy)) modulus (now (words .entry)) place (now (output .entry)) ⌝ }
 {
-    sample_at_once(
-        output,
-        modulus,
-        SecretKeyDistr::BlockBinary {
-            block_size,
-            occupancy,
-        },
-        words,
-        place,
-    )
+    let distr = SecretKeyDistr::BlockBinary {
+        block_size,
+        occupancy,
+    };
+    sample_at_once(output, modulus, distr, words, place)
 }
 
 // 0 with probability 1/2, 1 and -1 with 1/4 each.
@@ -141,16 +127,11 @@ pub fn sample_ternary_values_with_probabilities_to(
 ) -> Answer
     ensures { λ r. ⌜ outcome r (now (output .exit)) ≡ encodedAtOnce (secret (Ternary «minus_one_probability» «one_probability»)) modulus (now (words .entry)) place (now (output .entry)) ⌝ }
 {
-    sample_at_once(
-        output,
-        modulus,
-        SecretKeyDistr::Ternary {
-            negative_one_probability: minus_one_probability,
-            one_probability,
-        },
-        words,
-        place,
-    )
+    let distr = SecretKeyDistr::Ternary {
+        negative_one_probability: minus_one_probability,
+        one_probability,
+    };
+    sample_at_once(output, modulus, distr, words, place)
 }
 
 // Exactly hamming_weight coefficients that are not 0, each with a sign of its own. A weight over the length gives 7.
@@ -163,13 +144,8 @@ pub fn sample_fixed_hamming_weight_ternary_values_to(
 ) -> Answer
     ensures { λ r. ⌜ outcome r (now (output .exit)) ≡ encodedAtOnce (secret (FixedHammingWeightTernary «hamming_weight»)) modulus (now (words .entry)) place (now (output .entry)) ⌝ }
 {
-    sample_at_once(
-        output,
-        modulus,
-        SecretKeyDistr::FixedHammingWeightTernary { hamming_weight },
-        words,
-        place,
-    )
+    let distr = SecretKeyDistr::FixedHammingWeightTernary { hamming_weight };
+    sample_at_once(output, modulus, distr, words, place)
 }
 
 // Exactly so many -1 and so many 1. Weights over the length give 7.
@@ -183,14 +159,9 @@ pub fn sample_fixed_composition_ternary_values_to(
 ) -> Answer
     ensures { λ r. ⌜ outcome r (now (output .exit)) ≡ encodedAtOnce (secret (FixedCompositionTernary «minus_one_weight» «one_weight»)) modulus (now (words .entry)) place (now (output .entry)) ⌝ }
 {
-    sample_at_once(
-        output,
-        modulus,
-        SecretKeyDistr::FixedCompositionTernary {
-            negative_one_weight: minus_one_weight,
-            one_weight,
-        },
-        words,
-        place,
-    )
+    let distr = SecretKeyDistr::FixedCompositionTernary {
+        negative_one_weight: minus_one_weight,
+        one_weight,
+    };
+    sample_at_once(output, modulus, distr, words, place)
 }

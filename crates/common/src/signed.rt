@@ -1,5 +1,6 @@
 // Signed coefficients, -1 as itself. Numbers in order: those of making (1 or 5), then 22, 6, 7 or 8, 23.
 use distr::answer::Answer;
+use distr::answer::refused;
 use distr::secret_key_distr::BlockOccupancy;
 use distr::secret_key_distr::SecretKeyDistr;
 use secret_key_sampler::SecretKeySampler;
@@ -15,7 +16,7 @@ fn sample_at_once(output: &mut [i64], distr: SecretKeyDistr, words: &[u32], plac
     let made = SecretKeySampler::try_new(distr);
     let number = made.number;
     if number != 0 {
-        return Answer { number, place };
+        return refused(number, place);
     }
     let sampler = made.sampler;
     sampler.sample_signed_to(output, &[], &[], &[], &[], words, place)
@@ -37,12 +38,8 @@ pub fn sample_binary_values_with_probability_to(
 ) -> Answer
     ensures { λ r. ⌜ outcome r (now (output .exit)) ≡ signedAtOnce (secret (Binary «one_probability»)) (now (words .entry)) place (now (output .entry)) ⌝ }
 {
-    sample_at_once(
-        output,
-        SecretKeyDistr::Binary { one_probability },
-        words,
-        place,
-    )
+    let distr = SecretKeyDistr::Binary { one_probability };
+    sample_at_once(output, distr, words, place)
 }
 
 // Exactly hamming_weight ones. A weight over the length gives 7.
@@ -54,12 +51,8 @@ pub fn sample_fixed_hamming_weight_binary_values_to(
 ) -> Answer
     ensures { λ r. ⌜ outcome r (now (output .exit)) ≡ signedAtOnce (secret (FixedHammingWeightBinary «hamming_weight»)) (now (words .entry)) place (now (output .entry)) ⌝ }
 {
-    sample_at_once(
-        output,
-        SecretKeyDistr::FixedHammingWeightBinary { hamming_weight },
-        words,
-        place,
-    )
+    let distr = SecretKeyDistr::FixedHammingWeightBinary { hamming_weight };
+    sample_at_once(output, distr, words, place)
 }
 
 // Blocks with a one at a chosen place, or with none where the occupancy allows it. A bad block size gives 5, a bad length 8.
@@ -72,15 +65,11 @@ pub fn sample_block_binary_values_to(
 ) -> Answer
     ensures { λ r. ⌜ outcome r (now (output .exit)) ≡ signedAtOnce (secret (BlockBinary «block_size» occupancy)) (now (words .entry)) place (now (output .entry)) ⌝ }
 {
-    sample_at_once(
-        output,
-        SecretKeyDistr::BlockBinary {
-            block_size,
-            occupancy,
-        },
-        words,
-        place,
-    )
+    let distr = SecretKeyDistr::BlockBinary {
+        block_size,
+        occupancy,
+    };
+    sample_at_once(output, distr, words, place)
 }
 
 // 0 with probability 1/2, 1 and -1 with 1/4 each.
@@ -107,15 +96,11 @@ pub fn sample_ternary_values_with_probabilities_to(
 ) -> Answer
     ensures { λ r. ⌜ outcome r (now (output .exit)) ≡ signedAtOnce (secret (Ternary «minus_one_probability» «one_probability»)) (now (words .entry)) place (now (output .entry)) ⌝ }
 {
-    sample_at_once(
-        output,
-        SecretKeyDistr::Ternary {
-            negative_one_probability: minus_one_probability,
-            one_probability,
-        },
-        words,
-        place,
-    )
+    let distr = SecretKeyDistr::Ternary {
+        negative_one_probability: minus_one_probability,
+        one_probability,
+    };
+    sample_at_once(output, distr, words, place)
 }
 
 // Exactly hamming_weight coefficients that are not 0, each with a sign of its own. A weight over the length gives 7.
@@ -127,12 +112,8 @@ pub fn sample_fixed_hamming_weight_ternary_values_to(
 ) -> Answer
     ensures { λ r. ⌜ outcome r (now (output .exit)) ≡ signedAtOnce (secret (FixedHammingWeightTernary «hamming_weight»)) (now (words .entry)) place (now (output .entry)) ⌝ }
 {
-    sample_at_once(
-        output,
-        SecretKeyDistr::FixedHammingWeightTernary { hamming_weight },
-        words,
-        place,
-    )
+    let distr = SecretKeyDistr::FixedHammingWeightTernary { hamming_weight };
+    sample_at_once(output, distr, words, place)
 }
 
 // Exactly so many -1 and so many 1. Weights over the length give 7.
@@ -145,13 +126,9 @@ pub fn sample_fixed_composition_ternary_values_to(
 ) -> Answer
     ensures { λ r. ⌜ outcome r (now (output .exit)) ≡ signedAtOnce (secret (FixedCompositionTernary «minus_one_weight» «one_weight»)) (now (words .entry)) place (now (output .entry)) ⌝ }
 {
-    sample_at_once(
-        output,
-        SecretKeyDistr::FixedCompositionTernary {
-            negative_one_weight: minus_one_weight,
-            one_weight,
-        },
-        words,
-        place,
-    )
+    let distr = SecretKeyDistr::FixedCompositionTernary {
+        negative_one_weight: minus_one_weight,
+        one_weight,
+    };
+    sample_at_once(output, distr, words, place)
 }

@@ -18,7 +18,7 @@ use Rattle.distr.specs.Blocks.{categories, block, blocksOf, blockBinary}
 use Rattle.distr.specs.Making.{badBlock}
 use Rattle.counts.specs.Inside.{same, tally, every, isBit, listOf, everyBlock, blockOk}
 use Rattle.counts.specs.DrawLists.{inBox, Carries}
-use Rattle.counts.proofs.Sums.{bit, sum, cnt, sameList, sum-ext, sum-first, sum-zero, sum-mul-right, cnt-ext, cnt-mul-left, bit-and}
+use Rattle.counts.proofs.Sums.{bit, sum, cnt, sameList, sum-ext, sum-first, sum-zero, sum-mul-right, cnt-ext, cnt-mul-left, bit-and, and-swap, bit-cond}
 use Rattle.counts.proofs.Exact.{Counted, counted}
 use Rattle.counts.proofs.Choices.{choosable, choices-boxed, choices-carried, choices-are-words}
 
@@ -27,12 +27,7 @@ use Rattle.counts.proofs.Choices.{choosable, choices-boxed, choices-car
 module _ (ok : ℤ → Bool) where
   listOf-cons : (n : ℕ) (c : ℤ) (cs : List ℤ) → listOf (suc n) ok (c ∷ cs) ≡ (ok c && listOf n ok cs)
   unfolding every
-  listOf-cons n c cs = rw (eqb·suc-suc (length cs) n) (swap (eqb (length cs) n) (ok c) (every ok cs))
-    where
-      swap : (a b e : Bool) → (a && (b && e)) ≡ (b && (a && e))
-      swap true b e = refl
-      swap false true e = refl
-      swap false false e = refl
+  listOf-cons n c cs = rw (eqb·suc-suc (length cs) n) (and-swap (eqb (length cs) n) (ok c) (every ok cs))
 
   listOf-nil : (n : ℕ) → listOf (suc n) ok [] ≡ false
   listOf-nil n = rw (eqb·zero-suc n)
@@ -192,14 +187,10 @@ block-binary-counted size n occupancy t h k e =
     sums cs =
         blocks-count size (categories size occupancy) (blockOk occupancy) (block-ways size occupancy) (n / size) cs
         ∙ ap (λ l. bit (listOf l isBit cs && everyBlock size (blockOk occupancy) (n / size) cs)) whole
-        ∙ as-cond (listOf n isBit cs && everyBlock size (blockOk occupancy) (n / size) cs)
+        ∙ bit-cond (listOf n isBit cs && everyBlock size (blockOk occupancy) (n / size) cs)
       where
         whole : n / size * size ≡ n
         whole = omega (arith, div-add-mod' n size)
-
-        as-cond : (b : Bool) → bit b ≡ cond b 1 0
-        as-cond true = refl
-        as-cond false = refl
 
     carried : (ds : List ℕ) → T (inBox choices ds) → (words : List ℕ) × (rest : List ℕ) × Carries (blockBinary size occupancy n) words 0 ds rest
     carried ds b =

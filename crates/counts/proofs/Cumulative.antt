@@ -17,7 +17,7 @@ use Rattle.distr.proofs.Rising.{Rising, is-rising, rises, Largest, largest}
 use Rattle.counts.specs.Inside.{same, within, listOf}
 use Rattle.counts.specs.Formula.{productOf, cumulativeWays}
 use Rattle.counts.proofs.Exact.{Counted}
-use Rattle.counts.proofs.Sums.{bit, sum, sum-ext, sum-zero, sum-const, sum-append, bit-and}
+use Rattle.counts.proofs.Sums.{bit, sum, sum-ext, sum-zero, sum-const, sum-append, bit-and, tests-agree}
 use Rattle.counts.proofs.Products.{ways}
 use Rattle.counts.proofs.WideWords.{wide-counted}
 
@@ -76,13 +76,6 @@ sum-even (suc b) = ap (λ (x : ℕ). x + bit (not (eqb (b % 2) 1))) (sum-even b)
 
 -- ---- the magnitude of a word
 
--- two tests that say the same
-same-test : (a b : Bool) → (T a → T b) → (T b → T a) → a ≡ b
-same-test true true p q = refl
-same-test true false p q = absurd (p tt)
-same-test false true p q = absurd (q tt)
-same-test false false p q = refl
-
 -- the end of magnitude m's interval of the words below r: `intervalEnd` where r is 2^64
 abbrev end : ℕ → ℕ → List ℕ → ℕ → ℕ
 end r M bounds m = cond (eqb m M) r (getD bounds (suc m) 0)
@@ -106,7 +99,7 @@ module _ (r M : ℕ) (bounds : List ℕ) (first : getD bounds 0 0 ≡ 0)
 
   -- magnitude m is that of the words from its bound up to its end
   in-interval : (m w : ℕ) → m ≤ M → w < r → eqb (magnitude bounds M w) m ≡ (leb (getD bounds m 0) w && ltb w (end r M bounds m))
-  in-interval m w h l = same-test (eqb (magnitude bounds M w) m) (lower && upper) onto back
+  in-interval m w h l = tests-agree (eqb (magnitude bounds M w) m) (lower && upper) onto back
     where
       lower : Bool
       lower = leb (getD bounds m 0) w

@@ -1,6 +1,6 @@
 -- Fixed binary and ternary weight: counted by the factorial of the inserted weight.
 use mathlib.Core.Path.{_≡_, refl, ap, _∙_}
-use mathlib.Core.Bool.{Bool, true, false, cond, _&&_}
+use mathlib.Core.Bool.{Bool, true, false, cond, _&&_, and-assoc}
 use mathlib.Core.List.{List, [], _∷_, _++_, append-nil}
 use Prim.Native.Nat.{ℕ, zero, suc, _+_, _-_, _<_, _≤_, min}
 use native.Mathlib.Nat.{zero-add, one-mul, mul-one}
@@ -14,15 +14,15 @@ use Rattle.distr.specs.Insertion.{countUp, signBefore, insertSigned, insertion,
 use Rattle.counts.specs.Inside.{same, tally, every, isBit, within, listOf}
 use Rattle.counts.specs.Formula.{factorial, compositionFormula}
 use Rattle.counts.specs.DrawLists.{inBox}
-use Rattle.counts.proofs.Sums.{bit, cnt, sameList, and-assoc}
+use Rattle.counts.proofs.Sums.{bit, cnt, sameList, tests-agree, bit-cond}
 use Rattle.counts.proofs.Exact.{Counted, counted}
 use Rattle.counts.proofs.WideWords.{counted-as}
 use Rattle.counts.proofs.Choices.{choosable}
 use Rattle.counts.proofs.Packed.{signs-alone-counted}
 use Rattle.counts.proofs.InsertionLaw.{undo, tallyBy}
 use Rattle.counts.proofs.Insertion.{Steps, class-count, each-signed, choosable-up}
-use Rattle.counts.proofs.Tallies.{isSign, other, bit-cond, tally-is, tally-join, sign-values, every-tally, tally-parts}
-use Rattle.counts.proofs.Tallies.{copies, kept-sign, one-less, tests-agree}
+use Rattle.counts.proofs.Tallies.{isSign, other, tally-is, tally-join, sign-values, every-tally, tally-parts}
+use Rattle.counts.proofs.Tallies.{copies, kept-sign, one-less}
 use Rattle.counts.proofs.SignedInsertion.{nextSigns, carrier, signed-boxed, signed-carried, carrier-are-words}
 use Rattle.counts.proofs.FixedComposition.{zeros-fill, ones-fill, composition-counted}
 

@@ -11,7 +11,7 @@ use lib.ListN.{length, getD, take, set, length-append, length-take, length-set}
 use lib.IntN.{ℤ, pos}
 use Rattle.counts.specs.Inside.{same}
 use Rattle.distr.specs.Insertion.{inserted}
-use Rattle.counts.proofs.Sums.{bit, sum, sum-ext, sum-zero, sum-add, sum-mul-left, sum-swap, sum-first, bit-and, sameList, sameList-eq}
+use Rattle.counts.proofs.Sums.{bit, sum, sum-ext, sum-zero, sum-add, sum-mul-left, sum-swap, sum-first, bit-and, and-swap, sameList, sameList-eq}
 
 -- the first n of n + 1 coefficients, the last of them back at the place s
 abbrev pub undo : ℕ → List ℤ → ℕ → List ℤ
@@ -26,11 +26,6 @@ tallyBy p (c ∷ cs) = bit (p c) + tallyBy p cs
 unfoldable pub lastInto : (ℤ → Bool) → (List ℤ → ℕ) → List ℤ → ℕ
 lastInto p f [] = 0
 lastInto p f (c ∷ cs) = sum (suc (length cs)) (λ s. bit (p (getD (c ∷ cs) s (pos 0))) * f (undo (length cs) (c ∷ cs) s))
-
-and-swap : (a b c : Bool) → (a && (b && c)) ≡ (b && (a && c))
-and-swap true b c = refl
-and-swap false true c = refl
-and-swap false false c = refl
 
 -- a value at the end is compared with the last coefficient
 same-snoc : (x : ℤ) (xs cs : List ℤ) → length cs ≡ suc (length xs)

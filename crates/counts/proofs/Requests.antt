@@ -13,12 +13,13 @@ use Rattle.distr.specs.declared.secret_key_distr.SecretKeyDistr.the-variants.{U
 use Rattle.distr.specs.declared.error_distribution.ErrorDistribution.{ErrorDistribution}
 use Rattle.distr.specs.declared.error_distribution.ErrorDistribution.the-variants.{CenteredBinomial, Gaussian as ErrorGaussian}
 use Rattle.distr.specs.Thresholds.{threshold}
-use Rattle.distr.specs.Gaussian.{literal, support, cumulativeLimit, cumulativeTable}
+use Rattle.distr.specs.Constants.{literal, cumulativeLimit}
+use Rattle.distr.specs.Gaussian.{support, cumulativeTable}
 use Rattle.distr.specs.Layered.{layerTables}
 use Rattle.distr.specs.Distribution.{Distr, secret, error, Tables, onDeviation, isLayered, secretRule, errorRule, rule}
 use Rattle.distr.specs.Making.{refuse, badProbability, badProbabilities, badBlock, secretNumber, errorNumber, makingNumber}
-use Rattle.distr.specs.Numbers.{firstOf, tooLong, badWeight, lengthNumber, gaussianTable, tableNumber, signedNumbers}
-use Rattle.distr.proofs.Drawing.{first-passed}
+use Rattle.distr.specs.Numbers.{firstOf, tooLong, lengthNumber, gaussianTable, tableNumber, signedNumbers}
+use Rattle.distr.proofs.Drawing.{first-passed, weight-fits}
 use Rattle.counts.specs.Inside.{insideSecret, inside}
 use Rattle.counts.specs.Formula.{secretFormula, formula}
 use Rattle.counts.proofs.Exact.{Counted}
@@ -64,10 +65,6 @@ what-passed d n tables made no-layers numbers =
 not-zero : (n : ℕ) → T (not (eqb n 0)) → 0 < n
 not-zero zero t = absurd t
 not-zero (suc n) t = omega arith
-
--- a weight that 7 lets pass
-weight-fits : (h n : ℕ) → badWeight h n ≡ 0 → h ≤ n
-weight-fits h n e = nltb→le n h (neither (ltb n h) (ltb (2 ^ 64 - 1) h) (passed (ltb n h || ltb (2 ^ 64 - 1) h) 6 e) .0)
 
 not-not : (b : Bool) → T (not (not b)) → T b
 not-not true t = tt

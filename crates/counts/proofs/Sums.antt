@@ -1,7 +1,7 @@
 -- Sums of numbers, and sums over the draw lists of a box. All counting is algebra of these.
 use mathlib.Core.Path.{_≡_, refl, sym, ap, ap₂, _∙_}
 use mathlib.Core.Logic.{_⊎_, inl, inr}
-use mathlib.Core.Bool.{Bool, true, false, _&&_}
+use mathlib.Core.Bool.{Bool, true, false, cond, _&&_, and-assoc}
 use mathlib.Core.List.{List, [], _∷_, _++_}
 use Prim.Native.Nat.{ℕ, zero, suc, _+_, _-_, _*_, _<_, _≤_, min}
 use native.Mathlib.Nat.{add-zero, add-suc, add-assoc, zero-mul, one-mul, suc-mul, mul-zero, mul-add, add-mul, sub-zero, suc-sub-suc}
@@ -187,9 +187,21 @@ cnt-append (r ∷ rs) ss f =
 
 -- ---- tests as numbers
 
-pub and-assoc : (a b c : Bool) → (a && b && c) ≡ (a && (b && c))
-and-assoc true b c = refl
-and-assoc false b c = refl
+pub and-swap : (a b c : Bool) → (a && (b && c)) ≡ (b && (a && c))
+and-swap true b c = refl
+and-swap false true c = refl
+and-swap false false c = refl
+
+-- two tests that follow from one another
+pub tests-agree : (a b : Bool) → (T a → T b) → (T b → T a) → a ≡ b
+tests-agree true true f g = refl
+tests-agree true false f g = absurd (f tt)
+tests-agree false true f g = absurd (g tt)
+tests-agree false false f g = refl
+
+pub bit-cond : (b : Bool) → bit b ≡ cond b 1 0
+bit-cond true = refl
+bit-cond false = refl
 
 pub bit-and : (a b : Bool) → bit (a && b) ≡ bit a * bit b
 bit-and true b = sym (one-mul (bit b))

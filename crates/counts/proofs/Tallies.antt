@@ -1,6 +1,6 @@
 -- Tallies of classes of coefficients: how they make up a list, and how taking a coefficient out changes them.
 use mathlib.Core.Path.{_≡_, refl, sym, ap₂, _∙_}
-use mathlib.Core.Bool.{Bool, true, false, not, cond, _&&_, _||_}
+use mathlib.Core.Bool.{Bool, true, false, not, _&&_, _||_}
 use mathlib.Core.List.{List, [], _∷_}
 use Prim.Native.Nat.{ℕ, zero, suc, _+_, _≤_}
 use native.Mathlib.Nat.{zero-add}
@@ -12,7 +12,7 @@ use lib.ListN.{length, getD, replicate}
 use lib.IntN.{ℤ, pos, negsuc}
 use Rattle.distr.specs.Packed.{minusOne}
 use Rattle.counts.specs.Inside.{same, tally, every, within}
-use Rattle.counts.proofs.Sums.{bit, same-eq, sameList}
+use Rattle.counts.proofs.Sums.{bit, same-eq, sameList, tests-agree, bit-cond}
 use Rattle.counts.proofs.InsertionLaw.{undo, tallyBy, tally-undo}
 
 -- −1 or 1
@@ -22,10 +22,6 @@ isSign c = same minusOne c || same (pos 1) c
 -- none of −1, 0 and 1
 abbrev pub other : ℤ → Bool
 other c = not (within 1 c)
-
-pub bit-cond : (b : Bool) → bit b ≡ cond b 1 0
-bit-cond true = refl
-bit-cond false = refl
 
 -- the tally of a value is that of its class
 pub tally-is : (v : ℤ) (cs : List ℤ) → tally v cs ≡ tallyBy (same v) cs
@@ -123,13 +119,6 @@ one-less p n cs s h k t = omega (arith, tally-undo p n cs s h k, one (p (getD cs
   where
     one : (b : Bool) → T b → bit b ≡ 1
     one true t = refl
-
--- two tests that follow from one another
-pub tests-agree : (a b : Bool) → (T a → T b) → (T b → T a) → a ≡ b
-tests-agree true true f g = refl
-tests-agree true false f g = absurd (f tt)
-tests-agree false true f g = absurd (g tt)
-tests-agree false false f g = refl
 
 -- copies of u pass a test that says so by the length and the tally of u
 pub copies : (u : ℤ) (m : ℕ) (cs : List ℤ) (test : Bool) → (tallyBy (same u) cs ≡ m → length cs ≡ m → T test)

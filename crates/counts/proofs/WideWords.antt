@@ -15,7 +15,7 @@ use Rattle.counts.specs.Inside.{same, every, listOf}
 use Rattle.counts.specs.Formula.{productOf}
 use Rattle.counts.specs.DrawLists.{Exactly, inBox, Carries}
 use Rattle.distr.proofs.Reading.{areWords-drop}
-use Rattle.counts.proofs.Sums.{bit, cnt, sameList}
+use Rattle.counts.proofs.Sums.{bit, cnt, sameList, and-swap, bit-cond}
 use Rattle.counts.proofs.Exact.{Counted, counted}
 use Rattle.counts.proofs.Products.{ways, map-law}
 
@@ -91,12 +91,7 @@ unfolding sameList every
 same-replicate v zero [] = refl
 same-replicate v zero (c ∷ cs) = rw (eqb·suc-zero (length cs))
 same-replicate v (suc n) [] = rw (eqb·zero-suc n)
-same-replicate v (suc n) (c ∷ cs) = rw (same-replicate v n cs, eqb·suc-suc (length cs) n) (swap (same v c) (eqb (length cs) n) (every (same v) cs))
-  where
-    swap : (a b e : Bool) → (a && (b && e)) ≡ (b && (a && e))
-    swap true b e = refl
-    swap false true e = refl
-    swap false false e = refl
+same-replicate v (suc n) (c ∷ cs) = rw (same-replicate v n cs, eqb·suc-suc (length cs) n) (and-swap (same v c) (eqb (length cs) n) (every (same v) cs))
 
 -- a constant is reached by the one empty draw list
 pub constant-counted : (v : ℤ) (n : ℕ) → Counted (constant v n) (λ cs. listOf n (same v) cs) (λ cs. 1)
@@ -104,11 +99,7 @@ unfolding cnt inBox areWords
 constant-counted v n = counted (constant v n) (λ cs. listOf n (same v) cs) (λ cs. 1) sums carried boxed
   where
     sums : (cs : List ℤ) → cnt [] (λ ds. bit (sameList (replicate n v) cs)) ≡ cond (listOf n (same v) cs) 1 0
-    sums cs = rw (same-replicate v n cs) (go (listOf n (same v) cs))
-      where
-        go : (b : Bool) → bit b ≡ cond b 1 0
-        go true = refl
-        go false = refl
+    sums cs = rw (same-replicate v n cs) (bit-cond (listOf n (same v) cs))
 
     carried : (ds : List ℕ) → T (inBox [] ds) → (words : List ℕ) × (rest : List ℕ) × Carries (constant v n) words 0 ds rest
     carried [] t = ([], [], record { are-words = tt; good-place = omega arith; reads = refl })

@@ -45,7 +45,7 @@ within m c = leb (natAbs c) m
 abbrev pub listOf : ℕ → (ℤ → Bool) → List ℤ → Bool
 listOf n ok cs = eqb (length cs) n && every ok cs
 
--- As many blocks of a size, one after the other, each of which passes.
+-- The list begins with k blocks of one size, one after the other, each of which passes.
 unfoldable pub everyBlock : ℕ → (List ℤ → Bool) → ℕ → List ℤ → Bool
 everyBlock size ok zero cs = true
 everyBlock size ok (suc k) cs = ok (take size cs) && everyBlock size ok k (drop size cs)

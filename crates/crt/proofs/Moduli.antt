@@ -12,6 +12,7 @@ use lib.Seq.{drop-cons}
 use borrow.Author.Tests.{eq-eqb, ne-eqb, le-leb, lt-leb, leb-false}
 use Rattle.distr.specs.Making.{refuse}
 use Rattle.distr.specs.Numbers.{firstOf, modulusNumber, moduliNumbers}
+use Rattle.distr.proofs.Drawing.{first-passed, not-refused}
 
 module _ (most : ℕ) (moduli : List ℕ) where
   -- the first i moduli are passed
@@ -44,22 +45,12 @@ module _ (most : ℕ) (moduli : List ℕ) where
   unfolding firstOf moduliNumbers
   passed-all {i} p h = p .decides ∙ rw (drop-of-length-le moduli {i = i} h)
 
--- a list of numbers that refuses nothing begins with 0
-first-none : (k : ℕ) (ns : List ℕ) → firstOf (k ∷ ns) ≡ 0 → (k ≡ 0) × (firstOf ns ≡ 0)
-unfolding firstOf
-first-none zero ns e = (refl, e)
-first-none (suc k) ns e = absurd (omega arith)
-
-not-refused : (b : Bool) (k : ℕ) → cond b (suc k) 0 ≡ 0 → b ≡ false
-not-refused true k e = absurd (omega arith)
-not-refused false k e = refl
-
 -- moduli that no number refuses are above the largest magnitude
 above-first : (most modulus : ℕ) (moduli : List ℕ) → firstOf (moduliNumbers most (modulus ∷ moduli)) ≡ 0
     → (most < modulus) × (firstOf (moduliNumbers most moduli) ≡ 0)
 unfolding moduliNumbers
 above-first most modulus moduli e =
-    let later = first-none (modulusNumber most modulus) (moduliNumbers most moduli) (first-none (refuse (eqb modulus 0) 10) _ e .1) in
+    let later = first-passed (modulusNumber most modulus) (moduliNumbers most moduli) (first-passed (refuse (eqb modulus 0) 10) _ e .1) in
     (leb-false modulus most (not-refused (leb modulus most) 8 (later .0)), later .1)
 
 pub moduli-above : (most : ℕ) (moduli : List ℕ) → firstOf (moduliNumbers most moduli) ≡ 0 → (j : ℕ) → j < length moduli → most < getD moduli j 0

@@ -1,7 +1,7 @@
--- The rows made from native residues are the rows of residues of the coefficients, where these are within each modulus.
+-- The rows made from native residues are the rows of residues of the coefficients, where these are within each modulus, for any width.
 use mathlib.Core.Path.{_≡_, refl, sym, ap, ap₂, _∙_}
 use mathlib.Core.List.{List, [], _∷_, _++_, map}
-use Prim.Native.Nat.{ℕ, suc, _*_, _-_, _^_, _<_, _≤_, suc-le-suc}
+use Prim.Native.Nat.{ℕ, suc, _*_, _-_, _<_, _≤_, suc-le-suc}
 use native.Mathlib.Nat.{zero-lt-suc, mul-zero, mul-suc, add-comm}
 use native.Mathlib.Omega.{arith}
 use borrow.Author.Tests.{eq-eqb}
@@ -10,36 +10,34 @@ use lib.IntN.{ℤ, pos}
 use Rattle.distr.specs.Encoding.{encode, encodeWith, rows}
 use Rattle.distr.proofs.Writing.{map-replicate}
 use Rattle.draw_laws.proofs.Bounds.{Within}
-use Rattle.crt.specs.Rows.{fromNative, nativeRows, lastRow, spread}
+use Rattle.crt.specs.Rows.{fromNativeAt, nativeRowsAt, lastRow, spreadAt}
 use Rattle.crt.proofs.Native.{from-native-encode}
 
-pub within-more : {few most : ℕ} (cs : List ℤ) → few ≤ most → Within few cs → Within most cs
-within-more cs h w i k = omega (arith, w i k)
+-- all magnitudes are at most a number below the top bit, and that at most each modulus
+module _ (half most : ℕ) (h : most < half) where
+  row-encode : (modulus : ℕ) (cs : List ℤ) → Within most cs → most ≤ modulus
+      → map (fromNativeAt half modulus) (map (encodeWith (2 * half - 1)) cs) ≡ map (encode modulus) cs
+  row-encode modulus [] few k = refl
+  row-encode modulus (a ∷ cs) few k =
+      let first = few 0 (zero-lt-suc (length cs)) in
+      ap₂ (λ (x : ℕ) (xs : List ℕ). x ∷ xs) (from-native-encode half modulus a (omega arith) (omega arith))
+      (row-encode modulus cs (λ i j. few (suc i) (suc-le-suc j)) k)
 
-row-encode : (modulus : ℕ) (cs : List ℤ) → Within (2 ^ 63 - 1) cs → Within modulus cs
-    → map (fromNative modulus) (map (encodeWith (2 ^ 64 - 1)) cs) ≡ map (encode modulus) cs
-row-encode modulus [] h w = refl
-row-encode modulus (a ∷ cs) h w =
-    ap₂ (λ (x : ℕ) (xs : List ℕ). x ∷ xs)
-    (from-native-encode modulus a (omega (arith, h 0 (zero-lt-suc (length cs)))) (w 0 (zero-lt-suc (length cs))))
-    (row-encode modulus cs (λ i k. h (suc i) (suc-le-suc k)) (λ i k. w (suc i) (suc-le-suc k)))
+  rows-encode : (moduli : List ℕ) (cs : List ℤ) → Within most cs → ((j : ℕ) → j < length moduli → most ≤ getD moduli j 0)
+      → nativeRowsAt half moduli (map (encodeWith (2 * half - 1)) cs) ≡ rows moduli cs
+  unfolding nativeRowsAt rows
+  rows-encode [] cs few k = refl
+  rows-encode (modulus ∷ moduli) cs few k =
+      ap₂ (λ (a b : List ℕ). a ++ b) (row-encode modulus cs few (k 0 (zero-lt-suc (length moduli))))
+      (rows-encode moduli cs few (λ j l. k (suc j) (suc-le-suc l)))
 
-rows-encode : (moduli : List ℕ) (cs : List ℤ) → Within (2 ^ 63 - 1) cs → ((j : ℕ) → j < length moduli → Within (getD moduli j 0) cs)
-    → nativeRows moduli (map (encodeWith (2 ^ 64 - 1)) cs) ≡ rows moduli cs
-unfolding nativeRows rows
-rows-encode [] cs h w = refl
-rows-encode (modulus ∷ moduli) cs h w =
-    ap₂ (λ (a b : List ℕ). a ++ b) (row-encode modulus cs h (w 0 (zero-lt-suc (length moduli))))
-    (rows-encode moduli cs h (λ j k. w (suc j) (suc-le-suc k)))
-
--- the rows spread from a last row of native residues
-pub spread-encode : (out : List ℕ) (count : ℕ) (moduli : List ℕ) (cs : List ℤ) → length out ≡ count * length moduli
-    → lastRow out count ≡ map (encodeWith (2 ^ 64 - 1)) cs
-    → Within (2 ^ 63 - 1) cs → ((j : ℕ) → j < length moduli → Within (getD moduli j 0) cs)
-    → spread out count moduli ≡ rows moduli cs
-unfolding spread
-spread-encode out count moduli cs shape e h w =
-    rw (eq-eqb (length out) (count * length moduli) shape) (ap (nativeRows moduli) e ∙ rows-encode moduli cs h w)
+  -- the rows spread from a last row of native residues
+  pub spread-encode : (out : List ℕ) (count : ℕ) (moduli : List ℕ) (cs : List ℤ) → length out ≡ count * length moduli
+      → lastRow out count ≡ map (encodeWith (2 * half - 1)) cs → Within most cs → ((j : ℕ) → j < length moduli → most ≤ getD moduli j 0)
+      → spreadAt half out count moduli ≡ rows moduli cs
+  unfolding spreadAt
+  spread-encode out count moduli cs shape e few k =
+      rw (eq-eqb (length out) (count * length moduli) shape) (ap (nativeRowsAt half moduli) e ∙ rows-encode moduli cs few k)
 
 -- a row of zeros for each modulus
 pub rows-zero : (moduli : List ℕ) (count : ℕ) → rows moduli (replicate count (pos 0)) ≡ replicate (count * length moduli) 0

@@ -9,12 +9,10 @@ use borrow.Author.Tests.{ltb-true, eqb-true}
 use lib.ListN.{length, take, drop}
 use denote.Ref.{RefT, now}
 use Rattle.distr.specs.Encoding.{hasRow, rowStart, row}
-use Rattle.crt.specs.Parts.{IsPart, IsRow, rowEnd, IsRowSpan}
+use Rattle.distr.proofs.Reading.{both-true}
+use Rattle.crt.specs.declared.RowRange.{RowRange}
+use Rattle.crt.specs.Parts.{IsPart, IsRow, rowEnd, rowRange}
 use Rattle.crt.proofs.Shape.{row-inside}
-
-both-true : (a b : Bool) → (a && b) ≡ true → (a ≡ true) × (b ≡ true)
-both-true true b e = (refl, e)
-both-true false b e = absurd (true≢false (sym e))
 
 -- a row ends within the output
 row-room : (n count moduli i : ℕ) → hasRow n count moduli i ≡ true → i * count + count ≤ n
@@ -24,26 +22,26 @@ row-room n count moduli i e =
 
 -- `shaped` is the test of the shape
 module _ (n count moduli i : ℕ) (shaped : Bool) (tested : shaped ≡ eqb n (count * moduli)) where
-  pub span-room : (shaped && ltb i moduli) ≡ true → i * count + count ≤ n
-  span-room e = row-room n count moduli i (rw (← tested) e)
+  pub range-room : (shaped && ltb i moduli) ≡ true → i * count + count ≤ n
+  range-room e = row-room n count moduli i (rw (← tested) e)
 
-  pub span-row : (shaped && ltb i moduli) ≡ true → IsRowSpan n count moduli i (i * count) (i * count + count)
-  span-row e = record { starts = rw (← tested, e); ends = rw (← tested, e) }
+  pub range-row : (shaped && ltb i moduli) ≡ true → record { start = i * count; end = i * count + count } ≡ rowRange n count moduli i
+  range-row e = rw (← tested, e)
 
-  pub span-empty : (shaped && ltb i moduli) ≡ false → IsRowSpan n count moduli i 0 0
-  span-empty e = record { starts = rw (← tested, e); ends = rw (← tested, e) }
+  pub range-empty : (shaped && ltb i moduli) ≡ false → record { start = 0; end = 0 } ≡ rowRange n count moduli i
+  range-empty e = rw (← tested, e)
 
 -- a row, or the empty part, lies within the output
-module _ {n count moduli i start end : ℕ} (s : IsRowSpan n count moduli i start end) where
-  pub span-order : start ≤ end
-  span-order = rw (s .starts, s .ends) (go (hasRow n count moduli i))
+module _ (n count moduli i : ℕ) {range : RowRange} (found : range ≡ rowRange n count moduli i) where
+  pub range-order : range .start ≤ range .end
+  range-order = rw found (go (hasRow n count moduli i))
     where
       go : (b : Bool) → cond b (i * count) 0 ≤ cond b (i * count + count) 0
       go true = omega arith
       go false = omega arith
 
-  pub span-inside : end ≤ n
-  span-inside = rw (s .ends) (go (hasRow n count moduli i) refl)
+  pub range-inside : range .end ≤ n
+  range-inside = rw found (go (hasRow n count moduli i) refl)
     where
       go : (b : Bool) → hasRow n count moduli i ≡ b → cond b (i * count + count) 0 ≤ n
       go true e = row-room n count moduli i e
@@ -60,11 +58,11 @@ row-elements out count moduli i = go (hasRow (length out) count moduli i)
         rw width
     go false = refl
 
-pub part-row : (output part : RefT (List ℕ)) (count moduli i : ℕ) {start end : ℕ} → IsRowSpan (length (now output)) count moduli i start end
-    → IsPart output start (take (end - start) (drop start (now output))) part → IsRow output count moduli i part
-part-row output part count moduli i s p =
+pub part-row : (output part : RefT (List ℕ)) (count moduli i : ℕ) {range : RowRange} → range ≡ rowRange (length (now output)) count moduli i
+    → IsPart output (range .start) (take (range .end - range .start) (drop (range .start) (now output))) part → IsRow output count moduli i part
+part-row output part count moduli i found p =
     record {
-      contents = p .contents ∙ rw (s .starts, s .ends) (row-elements (now output) count moduli i);
+      contents = p .contents ∙ rw found (row-elements (now output) count moduli i);
       block = p .block;
-      offset = p .offset ∙ rw (s .starts);
+      offset = p .offset ∙ rw found;
     }

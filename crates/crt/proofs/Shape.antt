@@ -1,13 +1,12 @@
 -- When a length is that of a CRT output, and where its rows end.
 use mathlib.Core.Path.{_≡_, refl, sym, ap, _∙_}
 use mathlib.Core.Bool.{Bool, true, false, _&&_}
-use Prim.Native.Nat.{ℕ, _+_, _*_, _-_, _/_, _%_, _^_, _<_, _≤_}
+use Prim.Native.Nat.{ℕ, _+_, _*_, _/_, _%_, _<_, _≤_}
 use native.Mathlib.Nat.{mul-zero, mul-comm, suc-mul, mul-le-mul-right, mul-mod-left, div-eq-of-eq-mul-left, div-add-mod'}
 use native.Mathlib.Numerals.{add-one}
 use native.Mathlib.Omega.{arith}
 use lib.Dec.{eqb}
-use borrow.Author.Tests.{eq-eqb, eqb-true, eqb-false, le-ltb}
-use Rattle.distr.specs.Numbers.{shapeNumber}
+use borrow.Author.Tests.{eq-eqb, eqb-true, eqb-false}
 
 -- with no rows the length is 0
 pub shape-none : (n count rows : ℕ) → rows ≡ 0 → eqb n 0 ≡ eqb n (count * rows)
@@ -30,15 +29,6 @@ shape-divided n count rows h = go (eqb n (count * rows)) refl
         let whole : n ≡ count * rows = eqb-true n (count * rows) e in
         rw (eq-eqb (n / rows) count (div-eq-of-eq-mul-left h whole), eq-eqb (n % rows) 0 (ap (λ (k : ℕ). k % rows) whole ∙ mul-mod-left count rows))
     go false e = both (eqb (n / rows) count) (eqb (n % rows) 0) refl refl (eqb-false n (count * rows) e)
-
--- 11, or not
-pub shape-good : (n count rows : ℕ) → n < 2 ^ 64 → eqb n (count * rows) ≡ true → shapeNumber n count rows ≡ 0
-shape-good n count rows h e =
-    let whole : n ≡ count * rows = eqb-true n (count * rows) e in
-    rw (e, le-ltb (2 ^ 64 - 1) (count * rows) (omega arith))
-
-pub shape-bad : (n count rows : ℕ) → eqb n (count * rows) ≡ false → shapeNumber n count rows ≡ 11
-shape-bad n count rows e = rw e
 
 -- row i ends within the output
 pub row-inside : (n count rows i : ℕ) → n ≡ count * rows → i < rows → i * count + count ≤ n

@@ -6,6 +6,7 @@ use mathlib.Core.List.{List}
 use lib.ListN.{length}
 use denote.Ref.{RefT, ptr, now}
 use Rattle.distr.specs.Encoding.{hasRow, rowStart, row}
+use Rattle.crt.specs.declared.RowRange.{RowRange}
 
 -- The part of an output that starts at an index and holds these elements: it lies in the output's memory, 8 bytes an element.
 pub record IsPart (output : RefT (List ℕ)) (start : ℕ) (elements : List ℕ) (part : RefT (List ℕ)) : Type 0 where
@@ -24,6 +25,5 @@ abbrev pub rowEnd : ℕ → ℕ → ℕ → ℕ → ℕ
 rowEnd n coefficientCount moduli i = cond (hasRow n coefficientCount moduli i) (i * coefficientCount + coefficientCount) 0
 
 -- Where the row of one modulus starts and ends in an output of n elements.
-pub record IsRowSpan (n coefficientCount moduli i start end : ℕ) : Type 0 where
-  pub starts : start ≡ rowStart n coefficientCount moduli i
-  pub ends : end ≡ rowEnd n coefficientCount moduli i
+abbrev pub rowRange : ℕ → ℕ → ℕ → ℕ → RowRange
+rowRange n coefficientCount moduli i = record { start = rowStart n coefficientCount moduli i; end = rowEnd n coefficientCount moduli i }

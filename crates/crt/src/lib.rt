@@ -1,16 +1,21 @@
 // An inner crate of the library primus_distr: the CRT layout, a row of residues for each modulus, one row after the other. The
 // coefficients are drawn once, as native residues (-m is 2^64 - m), into the last row; each row is then made from the last one.
 use distr::answer::Answer;
+use distr::refusal::INVALID_CRT_SHAPE;
+use distr::refusal::MODULUS_TOO_SMALL;
+use distr::refusal::MODULUS_ZERO;
+use distr::refusal::OUT_OF_WORDS;
+use numbers::draw_number;
 ghost use mathlib.Core.Path.{_≡_};
 ghost use mathlib.Core.List.{_∷_, map};
 ghost use Prim.Native.Nat.{_*_, _-_, _≤_};
 ghost use lib.Dec.{eqb};
-ghost use lib.ListN.{length, take, drop};
+ghost use lib.ListN.{length, drop};
 ghost use lib.Seq.{paste};
-ghost use Rattle.distr.specs.Numbers.{firstOf, shapeNumber, tooLong, moduliNumbers};
+ghost use Rattle.distr.specs.Numbers.{firstOf, pastEnd, shapeNumber, tooLong, moduliNumbers};
 ghost use Rattle.distr.specs.Draw.{outcome};
 ghost use Rattle.crt.specs.Rows.{fromNative, spread, finished};
-ghost use Rattle.crt.specs.Parts.{IsPart, IsRowSpan, IsRow};
+ghost use Rattle.crt.specs.Parts.{rowRange, IsRow};
 
 // Whether n is coefficient_count * rows. Asked by division, since the product may not fit.
 fn has_shape(n: usize, coefficient_count: usize, rows: usize) -> bool
@@ -30,27 +35,34 @@ fn moduli_number(moduli: &[u64], largest: u64) -> u32
     while i < moduli.len() {
         let modulus = moduli[i];
         if modulus == 0 {
-            return 10;
+            return MODULUS_ZERO;
         }
         if modulus <= largest {
-            return 9;
+            return MODULUS_TOO_SMALL;
         }
         i += 1;
     }
     0
 }
 
-// The number of a CRT output of n elements for `coefficient_count` coefficients: 11 the shape, 6 too long, then 10 and 9 of the moduli.
-pub fn crt_number(n: usize, coefficient_count: usize, moduli: &[u64], largest: u64) -> u32
-    ensures { λ r. ⌜ r ≡ firstOf (shapeNumber n «coefficient_count» (length (now (moduli .entry))) ∷ tooLong n ∷ moduliNumbers largest (now (moduli .entry))) ⌝ }
+// The number of a CRT draw of `coefficient_count` coefficients into n elements, from `place` in `words` words: 22, 11 the shape, 6, then 10 and 9
+// of the moduli. A bad shape is judged before the length, so the length is not looked at then.
+pub fn crt_number(
+    words: usize,
+    place: usize,
+    n: usize,
+    coefficient_count: usize,
+    moduli: &[u64],
+    largest: u64,
+) -> u32
+    ensures { λ r. ⌜ r ≡ firstOf (pastEnd words place ∷ shapeNumber n «coefficient_count» (length (now (moduli .entry))) ∷ tooLong n
+        ∷ moduliNumbers largest (now (moduli .entry))) ⌝ }
 {
     if has_shape(n, coefficient_count, moduli.len()) {
-        if 65536 < n {
-            return 6;
-        }
-        return moduli_number(moduli, largest);
+        let asked = moduli_number(moduli, largest);
+        return draw_number(words, place, n, asked);
     }
-    11
+    draw_number(words, place, 0, INVALID_CRT_SHAPE)
 }
 
 // The residue of a native one: the modulus is added, wrapping, where the top bit is set. No branch, since the sign is random.
@@ -98,6 +110,17 @@ pub fn spread_rows(output: &mut [u64], coefficient_count: usize, moduli: &[u64])
     }
 }
 
+// Where the last row of an output of n elements starts: at 0 where the output is empty, whatever a row's length.
+pub fn last_row(n: usize, coefficient_count: usize) -> usize
+    ensures { λ r. ⌜ r ≡ n - «coefficient_count» ⌝ }
+{
+    if n < coefficient_count {
+        0
+    } else {
+        n - coefficient_count
+    }
+}
+
 // Ends a CRT draw whose last row was drawn with this answer: the rows where it succeeded, zeros over the whole output where a word was
 // not there. Another number leaves the output as it is.
 pub fn finish(
@@ -111,52 +134,43 @@ pub fn finish(
     let number = answer.number;
     if number == 0 {
         spread_rows(output, coefficient_count, moduli);
-    } else if number == 23 {
+    } else if number == OUT_OF_WORDS {
         output_u64::clear(output);
     }
     answer
 }
 
-// Where a part of an output starts and where it ends.
-struct Span {
-    start: usize,
-    end: usize,
+// Where the row of one modulus lies in an output: the index of its first element, and the one after its last.
+pub struct RowRange {
+    pub start: usize,
+    pub end: usize,
 }
 
-// Where the row of modulus number i lies in an output of n elements. A row out of range, and another shape, have the empty part at the
-// output's start.
-fn row_span(n: usize, coefficient_count: usize, moduli_count: usize, i: usize) -> Span
-    ensures { λ r. ⌜ IsRowSpan n «coefficient_count» «moduli_count» i (r .start) (r .end) ⌝ }
+// Where the row of modulus number i lies in an output of n elements, for a caller who writes to that row in place. A row out of range, and
+// another shape, have the empty part at the output's start.
+pub fn crt_row_range(n: usize, coefficient_count: usize, moduli_count: usize, i: usize) -> RowRange
+    ensures { λ r. ⌜ r ≡ rowRange n «coefficient_count» «moduli_count» i ⌝ }
 {
     if has_shape(n, coefficient_count, moduli_count) & (i < moduli_count) {
         let start = i * coefficient_count;
         let end = start + coefficient_count;
-        return Span { start, end };
+        return RowRange { start, end };
     }
-    Span { start: 0, end: 0 }
+    RowRange { start: 0, end: 0 }
 }
 
-// The elements from `start` up to `end`.
-fn part<'a>(output: &'a mut [u64], start: usize, end: usize) -> &'a mut [u64]
-    requires { ⌜ (start ≤ end) × (end ≤ length (now output)) ⌝ }
-    ensures { λ r. ⌜ IsPart (output .entry) start (take (end - start) (drop start (now (output .entry)))) r ⌝ }
-{
-    &mut output[start..end]
-}
-
-// The row of modulus number i, as that part of the output; the empty part at its start for a row out of range or another shape. No
-// contract can say what the rest holds: an output that lives on in the result has no value at exit. The rest is as it was, since
-// `row_span` has lengths alone, with no output to write to, and `part` takes the slice and does nothing else.
+// The row of modulus number i, as that part of the output; the empty part at its start for a row out of range or another shape. The output
+// is lent to be read, so no row is written to, and the caller's output is as it was.
 pub fn crt_row<'a>(
-    output: &'a mut [u64],
+    output: &'a [u64],
     coefficient_count: usize,
     moduli_count: usize,
     i: usize,
-) -> &'a mut [u64]
+) -> &'a [u64]
     ensures { λ r. ⌜ IsRow (output .entry) «coefficient_count» «moduli_count» i r ⌝ }
 {
-    let row = row_span(output.len(), coefficient_count, moduli_count, i);
+    let row = crt_row_range(output.len(), coefficient_count, moduli_count, i);
     let start = row.start;
     let end = row.end;
-    part(output, start, end)
+    &output[start..end]
 }

@@ -5,14 +5,15 @@ use mathlib.Core.List.{List, [], _∷_, _++_}
 use Prim.Native.Nat.{ℕ, zero, suc, _-_, _<_, _≤_}
 use native.Mathlib.Nat.{not-suc-le-zero}
 use native.Mathlib.Omega.{arith}
-use borrow.Author.Tests.{lt-ltb, le-ltb, ne-eqb}
+use borrow.Author.Tests.{lt-ltb, le-ltb, ltb-false, ne-eqb}
+use lib.Dec.{ltb}
 use lib.ListN.{length, drop, replicate}
 use lib.IntN.{ℤ, pos}
 use Rattle.distr.specs.Words.{Read, got, short, mapRead}
 use Rattle.distr.specs.Rule.{Rule, readBy}
 use Rattle.distr.specs.Making.{refuse}
-use Rattle.distr.specs.Numbers.{firstOf}
-use Rattle.distr.proofs.Reading.{short-not-got}
+use Rattle.distr.specs.Numbers.{firstOf, badWeight}
+use Rattle.distr.proofs.Reading.{short-not-got, or-false}
 use Rattle.distr.specs.Draw.{Outcome, settled, judged, readDraw, ruleDraw}
 
 -- the first number decides: 0 is passed over, another stands
@@ -42,6 +43,10 @@ first-passed (suc k) ns e = absurd (omega arith)
 pub not-refused : (b : Bool) (k : ℕ) → refuse b (suc k) ≡ 0 → b ≡ false
 not-refused true k e = absurd (omega arith)
 not-refused false k e = refl
+
+-- a weight that is not refused fits
+pub weight-fits : (weight n : ℕ) → badWeight weight n ≡ 0 → weight ≤ n
+weight-fits weight n e = ltb-false n weight (or-false (ltb n weight) _ (not-refused _ 6 e) .0)
 
 -- what is judged by 0 is drawn, and what another number judges is left as it was
 judged-zero : {A : Type 0} (k place : ℕ) (out : List A) (given : Outcome A) → k ≡ 0 → judged k place out given ≡ given

@@ -4,5 +4,4 @@ pub mod Writing
 pub mod Drawing
 pub mod BitSums
 pub mod Rising
-pub mod Picking
 pub mod Probabilities

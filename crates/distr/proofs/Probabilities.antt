@@ -13,7 +13,7 @@ use lib.Ieee.Exact.{HasValue}
 use lib.Ieee.Fits.{and-l, and-r, down-pos}
 use lib.Ieee.Positive.{num, den, positive, own-value, positive-of-value, values-of-le}
 use lib.Ieee.Scale.{finite}
-use Rattle.distr.specs.Gaussian.{literal}
+use Rattle.distr.specs.Constants.{literal}
 use Rattle.distr.specs.Layered.{inUnit}
 use Rattle.distr.specs.Making.{badProbability}
 use Rattle.distr.specs.Thresholds.{threshold}

@@ -1,10 +1,11 @@
 -- Laws of writing a list front to back into an output, over any element type.
 use mathlib.Core.Path.{_≡_, refl, sym, ap, ap₂, _∙_}
 use mathlib.Core.List.{List, [], _∷_, _++_, map, append-nil}
-use Prim.Native.Nat.{ℕ, zero, suc, _<_, _≤_}
+use Prim.Native.Nat.{ℕ, zero, suc, _+_, _<_, _≤_}
 use native.Mathlib.Nat.{zero-add}
+use native.Mathlib.Numerals.{add-one}
 use native.Mathlib.Omega.{arith}
-use lib.ListN.{length, getD, take, drop, set, replicate, length-append, length-take, length-drop}
+use lib.ListN.{length, getD, take, drop, set, replicate, length-append, length-take, length-drop, length-replicate, getD-replicate}
 use lib.Seq.{drop-cons, set-at, length-take-le, append-snoc, take-suc, drop-length, take-all}
 use lib.IntN.{ℤ, pos, negsuc}
 use Rattle.distr.specs.Encoding.{signedWith}
@@ -75,3 +76,22 @@ pub map-set : {A B : Type 0} (f : A → B) (xs : List A) (i : ℕ) (a : A) → m
 map-set f [] i a = refl
 map-set f (x ∷ xs) zero a = refl
 map-set f (x ∷ xs) (suc i) a = ap (λ t. f x ∷ t) (map-set f xs i a)
+
+-- one value throughout: a turn writes it once more, and after the last it stands everywhere
+pub fill-more : {A : Type 0} (v : A) (out : List A) (i : ℕ) → i < length out
+    → set (written (replicate (length out) v) i out) i v ≡ written (replicate (length out) v) (i + 1) out
+fill-more v out i h =
+    ap (set (written (replicate (length out) v) i out) i) (sym (getD-replicate (length out) i v v h))
+    ∙ written-more (replicate (length out) v) out i v (rw (length-replicate (length out) v) h) h
+    ∙ ap (λ (k : ℕ). written (replicate (length out) v) k out) (sym (add-one i))
+
+pub fill-all : {A : Type 0} (v : A) (out now : List A) (i : ℕ) → i ≡ length out → now ≡ written (replicate (length out) v) i out
+    → now ≡ replicate (length out) v
+fill-all v out now i e w =
+    w ∙ ap (λ (k : ℕ). written (replicate (length out) v) k out) e ∙ written-all (replicate (length out) v) out (length-replicate (length out) v)
+
+-- the first of many equal elements
+pub take-replicate : {A : Type 0} (i n : ℕ) (a : A) → i ≤ n → take i (replicate n a) ≡ replicate i a
+take-replicate zero n a h = refl
+take-replicate (suc i) zero a h = absurd (omega arith)
+take-replicate (suc i) (suc n) a h = ap (λ (t : List _). a ∷ t) (take-replicate i n a (omega arith))

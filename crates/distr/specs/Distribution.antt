@@ -17,7 +17,8 @@ use Rattle.distr.specs.Thresholds.{threshold, binary, ternary}
 use Rattle.distr.specs.Insertion.{fixedComposition, fixedBinaryWeight, fixedTernaryWeight}
 use Rattle.distr.specs.Blocks.{blockBinary}
 use Rattle.distr.specs.CenteredBinomial.{centeredBinomial}
-use Rattle.distr.specs.Gaussian.{support, cumulativeLimit, cumulative}
+use Rattle.distr.specs.Constants.{cumulativeLimit}
+use Rattle.distr.specs.Gaussian.{support, cumulative}
 use Rattle.distr.specs.Layered.{Layers, layered}
 
 -- A distribution of either kind.

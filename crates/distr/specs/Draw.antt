@@ -8,6 +8,7 @@ use lib.ListN.{length, drop, replicate}
 use lib.IntN.{ℤ, pos}
 use Rattle.distr.specs.declared.answer.Answer.{Answer}
 use Rattle.distr.specs.declared.error_distribution.ErrorDistribution.the-variants.{CenteredBinomial, Gaussian as ErrorGaussian}
+use Rattle.distr.specs.Constants.{outOfWords}
 use Rattle.distr.specs.Words.{Read, got, short}
 use Rattle.distr.specs.Rule.{Rule, readBy}
 use Rattle.distr.specs.Distribution.{Distr, secret, error, Tables, coefficients}
@@ -29,7 +30,7 @@ outcome answer output = record { number = answer .number; place = answer .place;
 -- after reading is a tail of the words, so the new place is the number of words before that tail.
 unfoldable pub settled : {A : Type 0} → (List ℤ → List A) → ℕ → ℕ → ℕ → Read (List ℤ) → Outcome A
 settled write wordCount place n (got cs rest) = record { number = 0; place = wordCount - length rest; output = write cs }
-settled write wordCount place n short = record { number = 23; place = place; output = write (replicate n (pos 0)) }
+settled write wordCount place n short = record { number = outOfWords; place = place; output = write (replicate n (pos 0)) }
 
 -- "All but 23 change neither place nor output."
 unfoldable pub judged : {A : Type 0} → ℕ → ℕ → List A → Outcome A → Outcome A
@@ -45,7 +46,7 @@ abbrev pub readDraw : {A : Type 0} → (List ℤ → List A) → ℕ → (List �
 readDraw write number rules words place out =
     drawn write (pastEnd (length words) place ∷ tooLong (length out) ∷ number ∷ []) words place out (length out) rules
 
--- The same by one rule.
+-- Such a draw whose coefficients one rule gives.
 unfoldable pub ruleDraw : {A : Type 0} → (List ℤ → List A) → ℕ → Rule → List ℕ → ℕ → List A → Outcome A
 ruleDraw write number rule words place out = readDraw write number (readBy rule) words place out
 

@@ -11,7 +11,8 @@ abbrev pub encode : ℕ → ℤ → ℕ
 encode modulus (pos m) = m
 encode modulus (negsuc m) = modulus - suc m
 
--- The same by the caller's encoding of −1, as `minus_one` and `modulus_minus_one` have it in the Rust: residues, and signed numbers.
+-- A coefficient by the caller's encoding of −1, as `minus_one` and `modulus_minus_one` have it in the Rust: `minus` is modulus − 1 for residues,
+-- and −1 itself for signed numbers, so that −m is `minus` less m − 1.
 abbrev pub encodeWith : ℕ → ℤ → ℕ
 encodeWith minus (pos m) = m
 encodeWith minus (negsuc m) = minus - m

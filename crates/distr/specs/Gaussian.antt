@@ -5,23 +5,16 @@ use mathlib.Core.List.{List, [], _∷_}
 use lib.Dec.{leb, eqb}
 use lib.ListN.{length, getD}
 use lib.IntN.{ℤ, pos, negℤ}
-use lib.Ieee.{Float, binary64, round, mul}
+use lib.Ieee.{Float, binary64, mul}
 use lib.Ieee.Positive.{num, den}
+use Rattle.distr.specs.Constants.{tailCut}
 use Rattle.distr.specs.Rule.{Rule, wideWords}
-
--- The f64 nearest to a fraction, as the compiler reads a literal: 0.7 is `literal 7 10`.
-abbrev pub literal : ℕ → ℕ → Float
-literal a b = round binary64 false a b
 
 -- "Support M = max(1, ⌊deviation × 12.0⌋), the product taken in f64": ⌊num / den⌋ of the rounded product.
 abbrev pub support : Float → ℕ
 support deviation =
-    let product = mul binary64 deviation (literal 12 1) in
+    let product = mul binary64 deviation tailCut in
     max 1 (num product / den product)
-
--- "M ≤ 255 uses a lent cumulative table"; above it the layered draw serves.
-abbrev pub cumulativeLimit : ℕ
-cumulativeLimit = 255
 
 -- No element is below the one before it.
 unfoldable pub neverFalls : List ℕ → Bool

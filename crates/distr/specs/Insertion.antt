@@ -70,7 +70,8 @@ unfoldable pub signBefore : List ℕ → List ℕ
 signBefore [] = []
 signBefore (k ∷ ks) = 2 ∷ k ∷ signBefore ks
 
--- "Fixed ternary weight h < n: insertion at n−h..n−1."
+-- "Fixed ternary weight h < n: insertion at n−h..n−1." Here, as in the two above, "signed" is said of insertions that have a sign bit each; elsewhere it
+-- is said of the output.
 abbrev pub signedInsertion : ℕ → ℕ → Rule
 signedInsertion h n = record {
   ranges = signBefore (countUp (suc (n - h)) h);

@@ -9,7 +9,8 @@ use lib.Ieee.{Float, binary64, mul, sub, add, div, neg, lt, le, eq, ofInt}
 use lib.Ieee.Scale.{finite}
 use Rattle.distr.specs.Words.{Read, got, short, mapRead, bindRead, word, choose, coin, chance, many}
 use Rattle.distr.specs.Thresholds.{threshold}
-use Rattle.distr.specs.Gaussian.{literal, rising, withSign}
+use Rattle.distr.specs.Constants.{literal}
+use Rattle.distr.specs.Gaussian.{rising, withSign}
 
 -- "Lent: R+1 endpoints …, R+1 heights …, M+1 curve values".
 pub record Layers : Type 0 where

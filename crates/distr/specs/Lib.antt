@@ -1,4 +1,6 @@
 -- Document 01 as definitions, in its order. What a reader must believe stands in these files.
+pub mod Constants
+pub mod Answers
 pub mod Words
 pub mod Rule
 pub mod Packed

@@ -10,7 +10,8 @@ use Rattle.distr.specs.declared.secret_key_distr.BlockOccupancy.{BlockOc
 use Rattle.distr.specs.declared.error_distribution.ErrorDistribution.{ErrorDistribution}
 use Rattle.distr.specs.declared.error_distribution.ErrorDistribution.the-variants.{CenteredBinomial, Gaussian as ErrorGaussian}
 use Rattle.distr.specs.Blocks.{categories}
-use Rattle.distr.specs.Gaussian.{literal, support}
+use Rattle.distr.specs.Constants.{literal, etaLimit, leastDeviation, supportLimit, invalidProbabilities, invalidDeviation, supportTooLarge, invalidEta, invalidBlockSize}
+use Rattle.distr.specs.Gaussian.{support}
 use Rattle.distr.specs.Layered.{inUnit}
 use Rattle.distr.specs.Distribution.{Distr, secret, error, onDeviation}
 
@@ -30,15 +31,11 @@ badProbabilities minus plus = badProbability minus || badProbability plus || lt 
 abbrev pub badDeviation : Float → Bool
 badDeviation deviation =
     let square = mul binary64 deviation deviation in
-    not (finite deviation) || lt deviation (literal 7 10) || not (finite square) || not (finite (mul binary64 (literal 2 1) square))
-
--- "Support above 4,095."
-abbrev pub supportLimit : ℕ
-supportLimit = 4095
+    not (finite deviation) || lt deviation leastDeviation || not (finite square) || not (finite (mul binary64 (literal 2 1) square))
 
 -- "Making a Gaussian: 2 before 3."
 abbrev pub gaussianNumber : Float → ℕ
-gaussianNumber deviation = cond (badDeviation deviation) 2 (refuse (ltb supportLimit (support deviation)) 3)
+gaussianNumber deviation = cond (badDeviation deviation) invalidDeviation (refuse (ltb supportLimit (support deviation)) supportTooLarge)
 
 -- "Block size 0, or 2^64−1 with `AtMostOne`": no categories that a u64 can number.
 abbrev pub badBlock : ℕ → BlockOccupancy → Bool
@@ -46,12 +43,12 @@ badBlock size occupancy = eqb size 0 || ltb (2 ^ 64 - 1) (categories size occupa
 
 unfoldable pub secretNumber : SecretKeyDistr → ℕ
 secretNumber UniformBinary = 0
-secretNumber (Binary p) = refuse (badProbability p) 1
+secretNumber (Binary p) = refuse (badProbability p) invalidProbabilities
 secretNumber SparseTernary = 0
 secretNumber UniformTernary = 0
-secretNumber (Ternary minus plus) = refuse (badProbabilities minus plus) 1
+secretNumber (Ternary minus plus) = refuse (badProbabilities minus plus) invalidProbabilities
 secretNumber (FixedHammingWeightBinary h) = 0
-secretNumber (BlockBinary size occupancy) = refuse (badBlock size occupancy) 5
+secretNumber (BlockBinary size occupancy) = refuse (badBlock size occupancy) invalidBlockSize
 secretNumber (FixedHammingWeightTernary h) = 0
 secretNumber (FixedCompositionTernary minus ones) = 0
 secretNumber (Gaussian deviation) = gaussianNumber deviation
@@ -59,7 +56,7 @@ secretNumber (Gaussian deviation) = gaussianNumber deviation
 -- "Eta outside 1..32."
 unfoldable pub errorNumber : ErrorDistribution → ℕ
 errorNumber (ErrorGaussian deviation) = gaussianNumber deviation
-errorNumber (CenteredBinomial eta) = refuse (not (leb 1 eta && leb eta 32)) 4
+errorNumber (CenteredBinomial eta) = refuse (not (leb 1 eta && leb eta etaLimit)) invalidEta
 
 -- The number of making a sampler of a distribution; 0 is a sampler.
 unfoldable pub makingNumber : Distr → ℕ

@@ -5,7 +5,8 @@ use mathlib.Core.List.{List, [], _∷_, _++_}
 use lib.Dec.{leb, ltb, eqb}
 use lib.ListN.{length}
 use Rattle.distr.specs.declared.secret_key_distr.SecretKeyDistr.the-variants.{UniformBinary, Binary, SparseTernary, UniformTernary, Ternary, FixedHammingWeightBinary, BlockBinary, FixedHammingWeightTernary, FixedCompositionTernary, Gaussian}
-use Rattle.distr.specs.Gaussian.{support, cumulativeLimit, cumulativeTable}
+use Rattle.distr.specs.Constants.{outputLimit, cumulativeLimit, outputTooLong, invalidWeight, invalidBlockLength, modulusTooSmall, modulusZero, invalidShape, invalidCumulativeTable, invalidLayerTables, neverMade, placePastEnd}
+use Rattle.distr.specs.Gaussian.{support, cumulativeTable}
 use Rattle.distr.specs.Layered.{layerTables}
 use Rattle.distr.specs.Distribution.{Distr, secret, error, Tables, onDeviation}
 use Rattle.distr.specs.Making.{refuse, largest}
@@ -17,19 +18,16 @@ firstOf (zero ∷ ns) = firstOf ns
 firstOf (suc k ∷ ns) = suc k
 
 -- "6 output longer than 65,536."
-abbrev pub outputLimit : ℕ
-outputLimit = 65536
-
 abbrev pub tooLong : ℕ → ℕ
-tooLong n = refuse (ltb outputLimit n) 6
+tooLong n = refuse (ltb outputLimit n) outputTooLong
 
 -- "7 weights over the length, or their sum over 2^64−1."
 abbrev pub badWeight : ℕ → ℕ → ℕ
-badWeight weight n = refuse (ltb n weight || ltb (2 ^ 64 - 1) weight) 7
+badWeight weight n = refuse (ltb n weight || ltb (2 ^ 64 - 1) weight) invalidWeight
 
 -- "8 block length 0 or no multiple of the block size."
 abbrev pub badBlocks : ℕ → ℕ → ℕ
-badBlocks size n = refuse (eqb n 0 || not (eqb (n % size) 0)) 8
+badBlocks size n = refuse (eqb n 0 || not (eqb (n % size) 0)) invalidBlockLength
 
 -- "7 or 8", by the distribution.
 unfoldable pub lengthNumber : Distr → ℕ → ℕ
@@ -47,13 +45,13 @@ lengthNumber (error d) n = 0
 
 -- "9 largest magnitude (M, eta, else 1) above modulus − 1"; "modulus 0 gives 9".
 abbrev pub modulusNumber : ℕ → ℕ → ℕ
-modulusNumber most modulus = refuse (leb modulus most) 9
+modulusNumber most modulus = refuse (leb modulus most) modulusTooSmall
 
 -- "12 cumulative table malformed"; "13 layer tables malformed".
 abbrev pub gaussianTable : ℕ → Tables → ℕ
 gaussianTable M tables =
-    cond (leb M cumulativeLimit) (refuse (not (cumulativeTable M (tables .bounds))) 12)
-    (refuse (not (layerTables M (tables .layers))) 13)
+    cond (leb M cumulativeLimit) (refuse (not (cumulativeTable M (tables .bounds))) invalidCumulativeTable)
+    (refuse (not (layerTables M (tables .layers))) invalidLayerTables)
 
 -- Tables that a distribution does not use are not judged.
 unfoldable pub tableNumber : Distr → Tables → ℕ
@@ -61,11 +59,11 @@ tableNumber d tables = onDeviation d (λ deviation. gaussianTable (support devia
 
 -- "22 place past the end of the words."
 abbrev pub pastEnd : ℕ → ℕ → ℕ
-pastEnd wordCount place = refuse (ltb wordCount place) 22
+pastEnd wordCount place = refuse (ltb wordCount place) placePastEnd
 
 -- "21 a sampler that making never gives, the empty one included", before 22. `made` says whether making gives the sampler.
 abbrev pub stateNumbers : Bool → ℕ → ℕ → List ℕ
-stateNumbers made wordCount place = refuse (not made) 21 ∷ pastEnd wordCount place ∷ []
+stateNumbers made wordCount place = refuse (not made) neverMade ∷ pastEnd wordCount place ∷ []
 
 -- What else can refuse a signed draw, whatever the words: 6, then 7 or 8, then 12 or 13.
 abbrev pub signedNumbers : Distr → Tables → ℕ → List ℕ
@@ -83,12 +81,12 @@ servesCrt (error d) = true
 -- "11 CRT output length not coefficients × moduli, or that product over 2^64−1."
 abbrev pub shapeNumber : ℕ → ℕ → ℕ → ℕ
 shapeNumber n coefficientCount moduli =
-    refuse (not (eqb n (coefficientCount * moduli)) || ltb (2 ^ 64 - 1) (coefficientCount * moduli)) 11
+    refuse (not (eqb n (coefficientCount * moduli)) || ltb (2 ^ 64 - 1) (coefficientCount * moduli)) invalidShape
 
 -- "Then modulus by modulus 10 before 9"; "10 a CRT modulus of 0".
 unfoldable pub moduliNumbers : ℕ → List ℕ → List ℕ
 moduliNumbers most [] = []
-moduliNumbers most (modulus ∷ moduli) = refuse (eqb modulus 0) 10 ∷ modulusNumber most modulus ∷ moduliNumbers most moduli
+moduliNumbers most (modulus ∷ moduli) = refuse (eqb modulus 0) modulusZero ∷ modulusNumber most modulus ∷ moduliNumbers most moduli
 
 -- "CRT order: 21, 22, 11, 6, then modulus by modulus 10 before 9, then 12 or 13" (then the empty output, then 23).
 abbrev pub crtNumbers : Distr → Tables → ℕ → ℕ → List ℕ → List ℕ

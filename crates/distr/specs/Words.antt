@@ -48,7 +48,7 @@ coin ws = mapRead (λ w. leb (2 ^ 31) w) (word ws)
 unfoldable pub chance : ℕ → List ℕ → Read Bool
 chance threshold ws = cond (eqb threshold (2 ^ 64)) (got true ws) (mapRead (λ w. ltb w threshold) (wide ws))
 
--- As many readings of one kind, one after the other.
+-- m readings of one kind, one after the other, and their values in that order.
 unfoldable pub many : {A : Type 0} → (List ℕ → Read A) → ℕ → List ℕ → Read (List A)
 many one zero ws = got [] ws
 many one (suc m) ws = bindRead (one ws) (λ a rest. mapRead (λ rs. a ∷ rs) (many one m rest))

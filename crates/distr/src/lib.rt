@@ -2,5 +2,7 @@
 pub mod answer;
 pub mod error_distribution;
 pub mod gaussian_parameters;
+pub mod limits;
+pub mod refusal;
 pub mod secret_key_distr;
 pub mod threshold;

@@ -14,7 +14,8 @@ use Rattle.distr.specs.Words.{Read, got, coin}
 use Rattle.distr.specs.Rule.{readBy}
 use Rattle.distr.specs.Packed.{digits}
 use Rattle.distr.specs.CenteredBinomial.{total, firstSum, secondSum, binomialValue, centeredBinomial}
-use Rattle.distr.specs.Gaussian.{cumulativeLimit, rising, cumulativeTable, magnitude, withSign, cumulativeValue, cumulative}
+use Rattle.distr.specs.Constants.{cumulativeLimit}
+use Rattle.distr.specs.Gaussian.{rising, cumulativeTable, magnitude, withSign, cumulativeValue, cumulative}
 use Rattle.distr.specs.Layered.{Layers, layerCount, heightList, curveList, layerTables, judge, Tried, kept, rejected, try, orElse, tries, layeredOne, layered}
 use Rattle.distr.specs.Distribution.{Tables, gaussianRead}
 use Rattle.distr.specs.Making.{refuse}

@@ -8,13 +8,10 @@ use borrow.Author.Tests.{eqb-true, ltb-false, lt-ltb, le-ltb, eq-eqb, ne-eqb}
 use lib.Dec.{ltb, eqb}
 use lib.ListN.{length, drop, replicate}
 use lib.IntN.{ℤ, pos}
-use lib.Ieee.{Float}
-use Rattle.distr.specs.declared.secret_key_distr.SecretKeyDistr.the-variants.{Gaussian}
-use Rattle.distr.specs.declared.error_distribution.ErrorDistribution.the-variants.{CenteredBinomial, Gaussian as ErrorGaussian}
+use Rattle.distr.specs.declared.error_distribution.ErrorDistribution.the-variants.{CenteredBinomial}
 use Rattle.distr.specs.Rule.{readBy}
 use Rattle.distr.specs.CenteredBinomial.{centeredBinomial}
-use Rattle.distr.specs.Gaussian.{support}
-use Rattle.distr.specs.Distribution.{Distr, secret, error, Tables, onDeviation, errorRule, rule, gaussianRead, coefficients}
+use Rattle.distr.specs.Distribution.{Distr, error, Tables, onDeviation, errorRule, rule, coefficients}
 use Rattle.distr.specs.Encoding.{encode, rows}
 use Rattle.distr.specs.Making.{refuse, largest}
 use Rattle.distr.specs.Numbers.{firstOf, stateNumbers, crtNumbers, servesCrt, shapeNumber, tooLong, moduliNumbers, tableNumber}
@@ -41,6 +38,15 @@ layout-passed most n count moduli = go (eqb n (count * length moduli)) (ltb (2 ^
     go true false true e f z = absurd (omega arith)
     go true true long e f z = absurd (omega arith)
     go false large long e f z = absurd (omega arith)
+
+-- 11, or not
+pub shape-good : (n count rows : ℕ) → n < 2 ^ 64 → eqb n (count * rows) ≡ true → shapeNumber n count rows ≡ 0
+shape-good n count rows h e =
+    let whole : n ≡ count * rows = eqb-true n (count * rows) e in
+    rw (e, le-ltb (2 ^ 64 - 1) (count * rows) (omega arith))
+
+pub shape-bad : (n count rows : ℕ) → eqb n (count * rows) ≡ false → shapeNumber n count rows ≡ 11
+shape-bad n count rows e = rw e
 
 same-either : {A : Type 0} (b : Bool) (x y z : A) → x ≡ z → y ≡ z → cond b x y ≡ z
 same-either true x y z e f = e
@@ -106,22 +112,6 @@ module _ (d : Distr) (tables : Tables) (count : ℕ) (moduli words : List ℕ) (
               ≡ settled (rows moduli) (length words) place count (coefficients d count tables (drop place words))
           unfolding crtDraw numbers judged
           crt-settled h = rw (last-number, table, ne-eqb (length out) 0 (λ e. omega arith))
-
--- the coefficients of the distributions that CRT draws serve
-pub coefficients-gaussian : (deviation : Float) (n : ℕ) (tables : Tables) (ws : List ℕ)
-    → coefficients (secret (Gaussian deviation)) n tables ws ≡ gaussianRead deviation (support deviation) tables n ws
-unfolding coefficients onDeviation
-coefficients-gaussian deviation n tables ws = refl
-
-pub coefficients-error-gaussian : (deviation : Float) (n : ℕ) (tables : Tables) (ws : List ℕ)
-    → coefficients (error (ErrorGaussian deviation)) n tables ws ≡ gaussianRead deviation (support deviation) tables n ws
-unfolding coefficients onDeviation
-coefficients-error-gaussian deviation n tables ws = refl
-
-pub coefficients-binomial : (eta n : ℕ) (tables : Tables) (ws : List ℕ)
-    → coefficients (error (CenteredBinomial eta)) n tables ws ≡ readBy (centeredBinomial eta n) ws
-unfolding coefficients onDeviation rule errorRule
-coefficients-binomial eta n tables ws = refl
 
 -- the row of one modulus
 pub rows-one : (q : ℕ) (cs : List ℤ) → rows (q ∷ []) cs ≡ map (encode q) cs

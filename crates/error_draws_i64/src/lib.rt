@@ -2,6 +2,8 @@
 // every type.
 use centered_binomial_i64::draw::sample_binomial_to;
 use distr::answer::Answer;
+use distr::answer::refused;
+use distr::refusal::NEVER_MADE;
 use error_method::ErrorMethod;
 use output_i64::Encoding;
 use output_i64::Out;
@@ -44,6 +46,6 @@ pub fn sample_to_with(
         ErrorMethod::CenteredBinomial(parameters) => {
             sample_binomial_to(output, encoding, parameters, words, place)
         }
-        ErrorMethod::Empty => Answer { number: 21, place },
+        ErrorMethod::Empty => refused(NEVER_MADE, place),
     }
 }

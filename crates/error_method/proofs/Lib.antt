@@ -1,5 +1,5 @@
--- Laws on preparing a method, on methods that have the same fields, and on the draws by them.
+-- Laws on preparing a method, on methods that have the same key, and on the draws by them.
 pub mod Preparing
 pub mod Same
-pub mod Held
+pub mod MethodFloats
 pub mod Methods

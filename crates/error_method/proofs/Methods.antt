@@ -11,22 +11,24 @@ use lib.IntN.{ℤ}
 use Rattle.distr.specs.declared.error_distribution.ErrorDistribution.{ErrorDistribution}
 use Rattle.distr.specs.declared.error_distribution.ErrorDistribution.the-variants as Distr
 use Rattle.distr.specs.Words.{got, mapRead, many}
-use Rattle.distr.specs.Gaussian.{support, cumulativeLimit}
+use Rattle.distr.specs.Constants.{cumulativeLimit}
+use Rattle.distr.specs.Gaussian.{support}
 use Rattle.distr.specs.Distribution.{error, Tables, onDeviation, errorRule, rule, coefficients}
 use Rattle.distr.specs.Making.{errorNumber, badDeviation, largest}
-use Rattle.distr.specs.Numbers.{tableNumber}
-use Rattle.distr.specs.Draw.{readDraw, ruleDraw, signedDraw}
+use Rattle.distr.specs.Numbers.{firstOf, lengthNumber, tableNumber}
+use Rattle.distr.specs.Draw.{readDraw, ruleDraw}
 use Rattle.distr.proofs.Drawing.{read-got}
 use Rattle.centered_binomial.specs.Binomial.{isMadeBinomial, parametersOf}
 use Rattle.centered_binomial.proofs.Made.{eta-small}
-use Rattle.draw_laws.proofs.Signed.{error-gaussian, error-binomial}
+use Rattle.draw_laws.proofs.Joining.{first-alone}
+use Rattle.draw_laws.proofs.Sampled.{distributionDraw}
 use Rattle.draw_laws.proofs.Bounds.{Within, gaussian-within, binomial-within}
 use Rattle.error_method.specs.Method.{prepared}
 use Rattle.error_method.specs.Drawing.{methodDraw}
 
--- the parameters of an accepted eta pass their family's own test
-own-binomial : (eta : ℕ) → errorNumber (Distr.CenteredBinomial eta) ≡ 0 → isMadeBinomial (parametersOf eta) ≡ true
-own-binomial eta e = rw (e, eq-eqb (2 ^ eta - 1) (2 ^ eta - 1) refl)
+-- the parameters that are prepared for an accepted eta pass their family's test
+prepared-binomial : (eta : ℕ) → errorNumber (Distr.CenteredBinomial eta) ≡ 0 → isMadeBinomial (parametersOf eta) ≡ true
+prepared-binomial eta e = rw (e, eq-eqb (2 ^ eta - 1) (2 ^ eta - 1) refl)
 
 module _ {A : Type 0} (write : List ℤ → List A) (tables : Tables) (words : List ℕ) (place : ℕ) (out : List A) where
   pub method-draw : (d : ErrorDistribution) → errorNumber d ≡ 0
@@ -34,14 +36,13 @@ module _ {A : Type 0} (write : List ℤ → List A) (tables : Tables) (words : L
       ≡ readDraw write (tableNumber (error d) tables) (coefficients (error d) (length out) tables) words place out
   unfolding methodDraw prepared ruleDraw tableNumber onDeviation coefficients rule errorRule
   method-draw (Distr.Gaussian deviation) e = refl
-  method-draw (Distr.CenteredBinomial eta) e = rw (own-binomial eta e)
+  method-draw (Distr.CenteredBinomial eta) e = rw (prepared-binomial eta e)
 
--- a signed draw
-pub method-signed : (d : ErrorDistribution) → errorNumber d ≡ 0 → (tables : Tables) (words : List ℕ) (place : ℕ) (out : List ℤ)
-    → methodDraw (λ cs. cs) (prepared d) tables words place out ≡ signedDraw true (error d) tables words place out
-unfolding methodDraw prepared
-method-signed (Distr.Gaussian deviation) e tables words place out = error-gaussian tables words place out deviation
-method-signed (Distr.CenteredBinomial eta) e tables words place out = rw (own-binomial eta e) (error-binomial tables words place out eta)
+  -- by the distribution's number, which is its tables': any length is good
+  pub prepared-draw : (d : ErrorDistribution) → errorNumber d ≡ 0
+      → methodDraw write (prepared d) tables words place out ≡ distributionDraw write (error d) tables words place out
+  unfolding lengthNumber firstOf
+  prepared-draw d e = method-draw d e ∙ rw (first-alone (tableNumber (error d) tables))
 
 -- no coefficient is above the largest magnitude
 pub method-within : (d : ErrorDistribution) (tables : Tables) → tableNumber (error d) tables ≡ 0 → (n : ℕ) (ws : List ℕ) (cs : List ℤ) (rest : List ℕ)
@@ -67,7 +68,7 @@ either true x = refl
 either false x = refl
 
 -- no coefficients read no words
-nothing-read : (d : ErrorDistribution) (tables : Tables) (ws : List ℕ) → coefficients (error d) 0 tables ws ≡ got [] ws
+pub nothing-read : (d : ErrorDistribution) (tables : Tables) (ws : List ℕ) → coefficients (error d) 0 tables ws ≡ got [] ws
 unfolding onDeviation coefficients rule errorRule mapRead many
 nothing-read (Distr.Gaussian deviation) tables ws = either (leb (support deviation) cumulativeLimit) (got [] ws)
 nothing-read (Distr.CenteredBinomial eta) tables ws = refl

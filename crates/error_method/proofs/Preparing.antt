@@ -5,22 +5,22 @@ use lib.Ieee.{Float}
 use Rattle.distr.specs.declared.error_distribution.ErrorDistribution.the-variants as Distr
 use Rattle.distr.specs.Making.{errorNumber}
 use Rattle.gaussian_core.specs.Made.{madeParameters}
-use Rattle.gaussian_core.proofs.Judged.{same-where-zero}
 use Rattle.gaussian_core.proofs.Made.{made-number, made-parameters}
 use Rattle.centered_binomial.specs.Binomial.{making as makingBinomial}
+use Rattle.draw_laws.proofs.Making.{judged-same}
+use Rattle.error_method.specs.declared.PreparedErrorMethod.{PreparedErrorMethod}
 use Rattle.error_method.specs.declared.ErrorMethod.{ErrorMethod}
 use Rattle.error_method.specs.declared.ErrorMethod.the-variants.{Gaussian, CenteredBinomial, Empty}
 use Rattle.error_method.specs.Method.{prepared, judgedMethod, preparing}
 
--- Two methods count as one where they are the same for the number 0.
-judged-same : (n k : ℕ) (m other : ErrorMethod) → n ≡ k → (k ≡ 0 → m ≡ other) → judgedMethod n m ≡ judgedMethod k other
-judged-same n k m other e h = rw (e, same-where-zero k m other Empty h)
+abbrev hold : ℕ → ErrorMethod → PreparedErrorMethod
+hold number method = record { number = number; method = method }
 
 pub prepares-gaussian : (d : Float) → judgedMethod (madeParameters d .number) (Gaussian (madeParameters d .parameters)) ≡ preparing (Distr.Gaussian d)
 unfolding errorNumber prepared
-prepares-gaussian d = judged-same _ _ _ _ (made-number d) (λ e. ap Gaussian (made-parameters d e))
+prepares-gaussian d = judged-same hold Empty _ _ _ _ (made-number d) (λ e. ap Gaussian (made-parameters d e))
 
 pub prepares-binomial : (eta : ℕ)
     → judgedMethod (makingBinomial eta .number) (CenteredBinomial (makingBinomial eta .parameters)) ≡ preparing (Distr.CenteredBinomial eta)
 unfolding prepared
-prepares-binomial eta = judged-same _ _ _ _ refl (λ e. ap CenteredBinomial (rw e))
+prepares-binomial eta = judged-same hold Empty _ _ _ _ refl (λ e. ap CenteredBinomial (rw e))

@@ -4,6 +4,7 @@ use mathlib.Core.List.{List}
 use lib.ListN.{length}
 use lib.IntN.{ℤ}
 use Rattle.distr.specs.Distribution.{Tables, gaussianRead}
+use Rattle.distr.specs.Constants.{neverMade}
 use Rattle.distr.specs.Numbers.{gaussianTable}
 use Rattle.distr.specs.Draw.{Outcome, readDraw}
 use Rattle.centered_binomial.specs.Binomial.{binomialDraw}
@@ -16,4 +17,4 @@ methodDraw write (Gaussian parameters) tables words place out =
     readDraw write (gaussianTable (parameters .«maximum_magnitude») tables)
     (λ ws. gaussianRead (parameters .«standard_deviation») (parameters .«maximum_magnitude») tables (length out) ws) words place out
 methodDraw write (CenteredBinomial parameters) tables words place out = binomialDraw write parameters words place out
-methodDraw write Empty tables words place out = record { number = 21; place = place; output = out }
+methodDraw write Empty tables words place out = record { number = neverMade; place = place; output = out }

@@ -1,4 +1,4 @@
--- The method that making prepares for a distribution, its largest magnitude, and its fields as numbers, by which two methods are compared.
+-- The method that making prepares for a distribution, its largest magnitude, and its key, by which two methods are compared.
 use Prim.Native.Nat.{ℕ}
 use mathlib.Core.Bool.{Bool, true, false, cond}
 use lib.Dec.{eqb}
@@ -7,8 +7,8 @@ use Rattle.distr.specs.declared.error_distribution.ErrorDistribution.the-varian
 use Rattle.distr.specs.Gaussian.{support}
 use Rattle.distr.specs.Making.{errorNumber}
 use Rattle.centered_binomial.specs.Binomial.{parametersOf}
-use Rattle.method_fields.specs.declared.MethodFields.{MethodFields}
-use Rattle.method_fields.specs.Fields.{fieldsOf, plainFields}
+use Rattle.methods.specs.declared.MethodKey.{MethodKey}
+use Rattle.methods.specs.Keys.{keyOf, plainKey}
 use Rattle.error_method.specs.declared.PreparedErrorMethod.{PreparedErrorMethod}
 use Rattle.error_method.specs.declared.ErrorMethod.{ErrorMethod}
 use Rattle.error_method.specs.declared.ErrorMethod.the-variants.{Gaussian, CenteredBinomial, Empty}
@@ -31,11 +31,11 @@ magnitudeOf (Gaussian parameters) = parameters .«maximum_magnitude»
 magnitudeOf (CenteredBinomial parameters) = parameters .eta
 magnitudeOf Empty = 1
 
--- A method's fields as numbers: its kind, and what it holds (0 where it holds nothing).
-abbrev pub methodFields : ErrorMethod → MethodFields
-methodFields (Gaussian parameters) = fieldsOf 1 false (parameters .«maximum_magnitude») 0 (parameters .«standard_deviation»)
-methodFields (CenteredBinomial parameters) = plainFields 2 (parameters .eta) (parameters .mask)
-methodFields Empty = plainFields 0 0 0
+-- The key of a method: its kind, and what it holds (0 where it holds nothing).
+abbrev pub methodKey : ErrorMethod → MethodKey
+methodKey (Gaussian parameters) = keyOf 1 false (parameters .«maximum_magnitude») 0 (parameters .«standard_deviation»)
+methodKey (CenteredBinomial parameters) = plainKey 2 (parameters .eta) (parameters .mask)
+methodKey Empty = plainKey 0 0 0
 
 -- The centered binomial's method.
 abbrev pub isBinomial : ErrorMethod → Bool

@@ -2,10 +2,10 @@
 use centered_binomial::CenteredBinomialParameters;
 use distr::error_distribution::ErrorDistribution;
 use distr::gaussian_parameters::GaussianParameters;
-use method_fields::MethodFields;
-use method_fields::plain;
+use methods::MethodKey;
+use methods::plain;
 ghost use mathlib.Core.Path.{_≡_};
-ghost use Rattle.error_method.specs.Method.{judgedMethod, preparing, magnitudeOf, methodFields, isBinomial};
+ghost use Rattle.error_method.specs.Method.{judgedMethod, preparing, magnitudeOf, methodKey, isBinomial};
 
 // Prepared state of a distribution. Empty is the method of a sampler that was refused.
 pub enum ErrorMethod {
@@ -63,12 +63,12 @@ pub fn maximum_magnitude(method: ErrorMethod) -> u64
     }
 }
 
-// The fields of a method, its kind among them.
-pub fn method_fields(method: ErrorMethod) -> MethodFields
-    ensures { λ r. ⌜ r ≡ methodFields method ⌝ }
+// The key of a method, by which two methods are compared.
+pub fn method_key(method: ErrorMethod) -> MethodKey
+    ensures { λ r. ⌜ r ≡ methodKey method ⌝ }
 {
     match method {
-        ErrorMethod::Gaussian(parameters) => MethodFields {
+        ErrorMethod::Gaussian(parameters) => MethodKey {
             kind: 1,
             full: false,
             first: parameters.maximum_magnitude,

@@ -6,9 +6,9 @@ use Rattle.distr.specs.declared.error_distribution.ErrorDistribution.{ErrorDist
 use Rattle.distr.specs.declared.error_distribution.ErrorDistribution.the-variants as Distr
 use Rattle.distr.specs.Making.{errorNumber}
 use Rattle.centered_binomial.specs.Deviation.{binomialDeviation}
-use Rattle.method_fields.specs.Fields.{sameFields}
+use Rattle.methods.specs.Keys.{sameKey}
 use Rattle.error_method.specs.declared.ErrorMethod.the-variants.{Empty}
-use Rattle.error_method.specs.Method.{prepared, methodFields}
+use Rattle.error_method.specs.Method.{prepared, methodKey}
 use Rattle.error_sampler.specs.declared.ErrorSampler.{ErrorSampler}
 use Rattle.error_sampler.specs.declared.MadeErrorSampler.{MadeErrorSampler}
 
@@ -25,7 +25,7 @@ making d =
 -- "21 a sampler that making never gives, the empty one included": making the sampler's own distribution gives exactly it.
 abbrev pub isMade : ErrorSampler → Bool
 isMade s =
-    eqb (errorNumber (s .distribution)) 0 && sameFields (methodFields (s .method)) (methodFields (prepared (s .distribution)))
+    eqb (errorNumber (s .distribution)) 0 && sameKey (methodKey (s .method)) (methodKey (prepared (s .distribution)))
 
 -- The standard deviation of a distribution: the Gaussian's own, the centered binomial's from eta.
 abbrev pub deviationOf : ErrorDistribution → Float

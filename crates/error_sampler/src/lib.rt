@@ -1,14 +1,17 @@
 // Behind primus_distr, by which callers reach it: error coefficients from lent words, by a prepared sampler with signed, encoded and
-// CRT output. The row of one modulus is that part of a CRT output, by crt_row.
-pub mod draw;
+// CRT output.
+mod crt;
+mod encoded;
+mod signed;
 
 use centered_binomial::deviation::standard_deviation as binomial_deviation;
-pub use crt::crt_row;
 use distr::error_distribution::ErrorDistribution;
 pub use error_method::ErrorMethod;
-use error_method::method_fields;
+use error_method::maximum_magnitude;
+use error_method::method_key;
 use error_method::prepare;
-use method_fields::same_fields;
+use methods::same_key;
+use methods::validated_modulus;
 ghost use mathlib.Core.Path.{_≡_};
 ghost use mathlib.Core.Bool.{not};
 ghost use mathlib.Core.List.{[], _∷_};
@@ -70,7 +73,7 @@ impl ErrorSampler {
         ensures { λ r. ⌜ r ≡ magnitudeOf (self .method) ⌝ }
     {
         let method = self.method;
-        error_method::maximum_magnitude(method)
+        maximum_magnitude(method)
     }
 
     // The Gaussian's deviation, or the f64 nearest to the centered binomial's, the root of eta / 2. The empty sampler has eta 0, and 0.0.
@@ -88,22 +91,9 @@ impl ErrorSampler {
     pub fn validate_modulus(self, modulus: u64) -> u32
         ensures { λ r. ⌜ r ≡ firstOf (refuse (not (isMade self)) 21 ∷ modulusNumber (largest (error (self .distribution))) modulus ∷ []) ⌝ }
     {
-        if !is_made(self) {
-            return 21;
-        }
+        let made = is_made(self);
         let method = self.method;
-        modulus_number(method, modulus)
-    }
-}
-
-// 9 for a modulus that is not above the largest magnitude of the method, else 0.
-pub(crate) fn modulus_number(method: ErrorMethod, modulus: u64) -> u32
-    ensures { λ r. ⌜ r ≡ modulusNumber (magnitudeOf method) modulus ⌝ }
-{
-    if modulus <= error_method::maximum_magnitude(method) {
-        9
-    } else {
-        0
+        validated_modulus(made, maximum_magnitude(method), modulus)
     }
 }
 
@@ -115,6 +105,6 @@ pub fn is_made(sampler: ErrorSampler) -> bool
     let method = sampler.method;
     let prepared = prepare(distribution);
     let again = prepared.method;
-    let same = same_fields(method_fields(method), method_fields(again));
+    let same = same_key(method_key(method), method_key(again));
     (prepared.number == 0) & same
 }

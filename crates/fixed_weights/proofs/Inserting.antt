@@ -8,14 +8,9 @@ use lib.Seq.{take-set-lt, take-suc-set, length-take-le, getD-take}
 use lib.IntN.{ℤ}
 use Rattle.distr.specs.Words.{Read, got, short, mapRead, bindRead, choose, chooseEach}
 use Rattle.distr.specs.Insertion.{countUp, inserted, insertEach}
-use Rattle.distr.proofs.Writing.{map-append}
+use Rattle.distr.proofs.Reading.{map-read-twice}
+use Rattle.distr.proofs.Writing.{map-append, map-set}
 use Rattle.fixed_weights.specs.Inserting.{insertedAt, insertAll}
-
--- a reading changed twice
-pub map-read-twice : {A B C : Type 0} (g : B → C) (f : A → B) (r : Read A) → mapRead g (mapRead f r) ≡ mapRead (λ a. g (f a)) r
-unfolding mapRead
-map-read-twice g f (got a rest) = refl
-map-read-twice g f short = refl
 
 -- a reading that goes on, changed at its end
 pub map-bind : {A B C : Type 0} (g : B → C) (r : Read A) (next : A → List ℕ → Read B)
@@ -92,14 +87,9 @@ rule-inserts (v ∷ vs) xs ws =
     ∙ rule-inserts vs (insertedAt v xs s) rest)
 
 module _ {A B : Type 0} (f : A → B) where
-  map-set : (xs : List A) (i : ℕ) (a : A) → map f (set xs i a) ≡ set (map f xs) i (f a)
-  map-set [] i a = refl
-  map-set (x ∷ xs) zero a = refl
-  map-set (x ∷ xs) (suc i) a = ap (λ (t : List B). f x ∷ t) (map-set xs i a)
-
   pub map-inserted : (v : A) (xs : List A) (s : ℕ) → map f (insertedAt v xs s) ≡ insertedAt (f v) (map f xs) s
   unfolding insertedAt
-  map-inserted v xs s = map-set (xs ++ (getD xs s v ∷ [])) s v
+  map-inserted v xs s = map-set f (xs ++ (getD xs s v ∷ [])) s v
       ∙ ap (λ (t : List B). set t s (f v)) (map-append f xs (getD xs s v ∷ []) ∙ ap (λ (t : B). map f xs ++ (t ∷ [])) (sym (List·getD-map f xs s v)))
 
   -- insertion does not look at the values

@@ -4,14 +4,13 @@ use mathlib.Core.List.{List}
 use Prim.Native.Nat.{ℕ, zero, suc, _-_, _^_, _<_, _≤_}
 use native.Mathlib.Omega.{arith}
 use lib.Dec.{ltb}
-use borrow.Author.Tests.{ltb-false, le-ltb}
+use borrow.Author.Tests.{le-ltb}
 use lib.ListN.{length, drop}
 use lib.IntN.{ℤ}
 use Rattle.distr.specs.Rule.{Rule, readBy}
 use Rattle.distr.specs.Numbers.{badWeight}
 use Rattle.distr.specs.Draw.{settled, ruleDraw}
-use Rattle.distr.proofs.Reading.{or-false}
-use Rattle.distr.proofs.Drawing.{not-refused}
+use Rattle.distr.proofs.Drawing.{weight-fits}
 use Rattle.numbers.proofs.Refusing.{number-passed, rule-refused, rule-passed}
 use Rattle.fixed_weights.specs.declared.plans.Plan.{Plan}
 use Rattle.fixed_weights.specs.declared.plans.Planning.{Planning}
@@ -19,12 +18,9 @@ use Rattle.fixed_weights.specs.declared.plans.Planning.the-variants.{By,
 use Rattle.fixed_weights.specs.Plans.{planning, weightNumber}
 use Rattle.fixed_weights.proofs.PlanRules.{Planned}
 
--- a weight that fits is not refused, and one that is not refused fits
+-- a weight that fits is not refused
 pub not-heavy : (weight n : ℕ) → weight ≤ n → n < 2 ^ 64 → badWeight weight n ≡ 0
 not-heavy weight n h l = rw (le-ltb n weight h, le-ltb (2 ^ 64 - 1) weight (omega arith))
-
-light : (weight n : ℕ) → badWeight weight n ≡ 0 → weight ≤ n
-light weight n e = ltb-false n weight (or-false (ltb n weight) _ (not-refused _ 6 e) .0)
 
 -- what is known where the numbers let a draw pass
 pub record Passed (wordCount place n weight : ℕ) : Type 0 where
@@ -34,7 +30,7 @@ pub record Passed (wordCount place n weight : ℕ) : Type 0 where
 pub passed : {wordCount place n weight k : ℕ} → k ≡ weightNumber wordCount place n weight → k ≡ 0 → Passed wordCount place n weight
 passed {wordCount} {place} {n} {weight} e z =
     let good = number-passed wordCount place n (badWeight weight n) e z in
-    record { there = good .0; light = light weight n (good .2) }
+    record { there = good .0; light = weight-fits weight n (good .2) }
 
 -- what a function that plans hands back, by its number
 pub planning-refused : (k : ℕ) {number : ℕ} (p : Plan) → k ≡ number → (k ≡ 0 → ⊥) → Refused k ≡ planning number p

@@ -8,10 +8,11 @@ use lib.ListN.{length, getD, take, drop, set, replicate, length-replicate}
 use lib.Seq.{length-take-le}
 use Rattle.distr.specs.Words.{Read, got, short, bindRead}
 use Rattle.distr.specs.Draw.{Outcome}
+use Rattle.distr.proofs.Writing.{take-replicate}
 use Rattle.fixed_weights.specs.declared.choices.Signing.the-variants.{Got, Short}
 use Rattle.fixed_weights.specs.Inserting.{SignAndPlace, signAndPlace, signing, insertedAt, insertSigns, placed, insertingSigns}
 use Rattle.fixed_weights.proofs.Signs.{drew, signing-short}
-use Rattle.fixed_weights.proofs.Turns.{Turn, turn-end, turn-next, take-replicate, placed-got, placed-short}
+use Rattle.fixed_weights.proofs.Turns.{Turn, turn-end, turn-next, placed-got, placed-short}
 
 -- one sign more: its choice, and then the others
 module _ {A : Type 0} (value : ℕ → A) (m w left : ℕ) (xs : List A) (ws : List ℕ) where

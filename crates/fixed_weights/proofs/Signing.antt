@@ -17,7 +17,8 @@ use Rattle.distr.proofs.Reading.{short-not-got}
 use Rattle.distr.proofs.Writing.{map-replicate}
 use Rattle.fixed_weights.specs.Plans.{weightNumber}
 use Rattle.fixed_weights.specs.Inserting.{SignAndPlace, lowestSignAndPlace, signAndPlace, insertedAt, insertSigns, placed, insertingSigns}
-use Rattle.fixed_weights.proofs.Inserting.{map-bind, bind-same, bind-bind, map-read-twice, bind-map, length-inserted, map-inserted}
+use Rattle.distr.proofs.Reading.{map-read-twice}
+use Rattle.fixed_weights.proofs.Inserting.{map-bind, bind-same, bind-bind, bind-map, length-inserted, map-inserted}
 use Rattle.fixed_weights.proofs.Judging.{not-heavy, accepted}
 use Rattle.fixed_weights.proofs.Planning.{Holds, settled-placed}
 

@@ -11,6 +11,7 @@ use lib.ListN.{length, getD, take, drop, set, replicate, length-set, length-repl
 use lib.Seq.{take-all, length-take-le}
 use Rattle.distr.specs.Words.{Read, got, short, choose}
 use Rattle.distr.specs.Draw.{Outcome}
+use Rattle.distr.proofs.Writing.{take-replicate}
 use Rattle.words.specs.declared.Taken.the-variants.{Got, Short}
 use Rattle.words.specs.Reading.{taken}
 use Rattle.words.proofs.Places.{place-of}
@@ -87,11 +88,6 @@ codes-end first second split n i s h = codes-same first second (split - i) (n - 
 pub cond-below : (b : Bool) {m n k : ℕ} → m < k → n < k → cond b m n < k
 cond-below true h l = h
 cond-below false h l = l
-
-pub take-replicate : {A : Type 0} (i n : ℕ) (a : A) → i ≤ n → take i (replicate n a) ≡ replicate i a
-take-replicate zero n a h = refl
-take-replicate (suc i) zero a h = absurd (omega arith)
-take-replicate (suc i) (suc n) a h = ap (λ (t : List _). a ∷ t) (take-replicate i n a (omega arith))
 
 module _ {A : Type 0} (z : A) (table : List A) (words : List ℕ) (n first second split : ℕ) where
   -- what a plan inserts from index i on

@@ -3,6 +3,7 @@ use Prim.Native.Nat.{ℕ, zero, suc, _-_, _/_, _%_}
 use mathlib.Core.List.{List, [], _∷_, _++_}
 use lib.ListN.{length, getD, set, replicate}
 use Rattle.distr.specs.Words.{Read, got, short, mapRead, bindRead, word, choose}
+use Rattle.distr.specs.Constants.{outOfWords}
 use Rattle.distr.specs.Draw.{Outcome}
 use Rattle.fixed_weights.specs.declared.plans.Plan.{Plan}
 use Rattle.fixed_weights.specs.declared.choices.Signing.{Signing}
@@ -51,7 +52,7 @@ insertSigns value (suc m) w left xs ws =
 -- old place and zeros.
 unfoldable pub placed : {A : Type 0} → A → ℕ → ℕ → ℕ → Read (List A) → Outcome A
 placed z wordCount place n (got xs rest) = record { number = 0; place = wordCount - length rest; output = xs }
-placed z wordCount place n short = record { number = 23; place = place; output = replicate n z }
+placed z wordCount place n short = record { number = outOfWords; place = place; output = replicate n z }
 
 -- The reading of a plan into n values, which `table` holds by their codes.
 abbrev pub inserting : {A : Type 0} → List A → A → Plan → ℕ → List ℕ → Read (List A)

@@ -4,6 +4,7 @@ use crate::Out;
 use crate::insertion;
 use crate::minus_one;
 use distr::answer::Answer;
+use distr::answer::refused;
 use fixed_weights::plans;
 use fixed_weights::plans::Planning;
 ghost use mathlib.Core.Path.{_≡_};
@@ -32,6 +33,6 @@ pub fn sample_fixed_composition_ternary_values_to(
             let values: [Out; 3] = [minus, 1, 0];
             insertion::insert_random_values(output, &values, plan, words, place)
         }
-        Planning::Refused(number) => Answer { number, place },
+        Planning::Refused(number) => refused(number, place),
     }
 }

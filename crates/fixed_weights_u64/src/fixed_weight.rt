@@ -4,6 +4,7 @@ use crate::Out;
 use crate::insertion;
 use crate::minus_one;
 use distr::answer::Answer;
+use distr::answer::refused;
 use fixed_weights::plans;
 use fixed_weights::plans::Planning;
 ghost use mathlib.Core.Path.{_≡_};
@@ -23,14 +24,13 @@ pub fn sample_fixed_hamming_weight_binary_values_to(
 ) -> Answer
     ensures { λ r. ⌜ outcome r (now (output .exit)) ≡ ruleDraw (held encoding) (badWeight «hamming_weight» (length (now (output .entry)))) (fixedBinaryWeight «hamming_weight» (length (now (output .entry)))) (now (words .entry)) place (now (output .entry)) ⌝ }
 {
-    let n = output.len();
-    match plans::binary_plan(words.len(), place, n, hamming_weight) {
+    match plans::binary_plan(words.len(), place, output.len(), hamming_weight) {
         Planning::By(plan) => {
             let minus = minus_one(encoding);
             let values: [Out; 3] = [minus, 1, 0];
             insertion::insert_random_values(output, &values, plan, words, place)
         }
-        Planning::Refused(number) => Answer { number, place },
+        Planning::Refused(number) => refused(number, place),
     }
 }
 
@@ -48,7 +48,7 @@ pub fn sample_fixed_hamming_weight_ternary_values_to(
     let n = output.len();
     let number = plans::weight_number(words.len(), place, n, hamming_weight, 0);
     if number != 0 {
-        return Answer { number, place };
+        return refused(number, place);
     }
     if hamming_weight == n {
         return packed_u64::ternary::sample_signs_to(output, encoding, words, place);

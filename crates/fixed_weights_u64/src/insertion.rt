@@ -4,6 +4,9 @@ use crate::Out;
 use crate::clear;
 use crate::fill;
 use distr::answer::Answer;
+use distr::answer::refused;
+use distr::answer::succeeded;
+use distr::refusal::OUT_OF_WORDS;
 use fixed_weights::choices;
 use fixed_weights::choices::Signing;
 use fixed_weights::plans;
@@ -18,21 +21,21 @@ ghost use Rattle.fixed_weights.specs.Inserting.{placed, inserting, insertingSig
 ghost use Rattle.fixed_weights.specs.Plans.{Ready};
 
 // Writes one value of the table over the output.
-fn fill_with(out: &mut [Out], values: &[Out; 3], code: usize)
+fn fill_with(output: &mut [Out], values: &[Out; 3], code: usize)
     requires { ⌜ code < 3 ⌝ }
-    ensures { λ r. ⌜ now (out .exit) ≡ replicate (length (now (out .entry))) (getD (now (values .entry)) code zero) ⌝ }
+    ensures { λ r. ⌜ now (output .exit) ≡ replicate (length (now (output .entry))) (getD (now (values .entry)) code zero) ⌝ }
 {
     let value = values[code];
-    fill(out, value);
+    fill(output, value);
 }
 
 // Copies place s to the index i and puts a value of the table at s.
-fn insert_at(out: &mut [Out], i: usize, s: usize, values: &[Out; 3], code: usize)
-    requires { ⌜ (i < length (now out)) × (s < length (now out)) × (code < 3) ⌝ }
-    ensures { λ r. ⌜ now (out .exit) ≡ set (set (now (out .entry)) i (getD (now (out .entry)) s zero)) s (getD (now (values .entry)) code zero) ⌝ }
+fn insert_at(output: &mut [Out], i: usize, s: usize, values: &[Out; 3], code: usize)
+    requires { ⌜ (i < length (now output)) × (s < length (now output)) × (code < 3) ⌝ }
+    ensures { λ r. ⌜ now (output .exit) ≡ set (set (now (output .entry)) i (getD (now (output .entry)) s zero)) s (getD (now (values .entry)) code zero) ⌝ }
 {
-    out[i] = out[s];
-    out[s] = values[code];
+    output[i] = output[s];
+    output[s] = values[code];
 }
 
 // Fills the output, then inserts by the plan at each index from the first that is left, at a place chosen among those up to it.
@@ -67,14 +70,11 @@ pub(crate) fn insert_random_values(
             }
             Taken::Short => {
                 clear(output);
-                return Answer { number: 23, place };
+                return refused(OUT_OF_WORDS, place);
             }
         }
     }
-    Answer {
-        number: 0,
-        place: next,
-    }
+    succeeded(next)
 }
 
 // Fills the output with zeros, then inserts `hamming_weight` signs, each at a place chosen among those up to its index.
@@ -111,12 +111,9 @@ pub(crate) fn insert_random_signs(
             }
             Signing::Short => {
                 clear(output);
-                return Answer { number: 23, place };
+                return refused(OUT_OF_WORDS, place);
             }
         }
     }
-    Answer {
-        number: 0,
-        place: at,
-    }
+    succeeded(at)
 }

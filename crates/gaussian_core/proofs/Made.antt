@@ -8,7 +8,8 @@ use lib.Ieee.{Float}
 use lib.Ieee.Positive.{positive}
 use borrow.Author.Tests.{lt-ltb, le-ltb, eqb-true}
 use Rattle.distr.specs.Gaussian.{support}
-use Rattle.distr.specs.Making.{badDeviation, supportLimit, gaussianNumber}
+use Rattle.distr.specs.Constants.{supportLimit}
+use Rattle.distr.specs.Making.{badDeviation, gaussianNumber}
 use Rattle.gaussian_core.specs.declared.parameters.MadeParameters.{MadeParameters}
 use Rattle.gaussian_core.specs.Made.{madeParameters, refused}
 use Rattle.gaussian_core.proofs.Support.{deviation-positive}

@@ -10,7 +10,7 @@ use lib.Ieee.Fits.{up-pos, down-pos}
 use lib.Ieee.Scale.{finite}
 use lib.Ieee.Positive.{num, den, positive, above, above-of-le, between, cross→le, mul-mono, first-pos}
 use borrow.Author.Tests.{ltb-true, ltb-false, not-false}
-use Rattle.distr.specs.Gaussian.{literal}
+use Rattle.distr.specs.Constants.{literal}
 use Rattle.distr.specs.Making.{badDeviation}
 use Rattle.distr.proofs.Reading.{or-false}
 use Rattle.probability.proofs.Truncating.{power}

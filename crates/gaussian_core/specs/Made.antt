@@ -3,7 +3,8 @@ use Prim.Native.Nat.{ℕ}
 use mathlib.Core.Bool.{cond}
 use lib.Dec.{eqb}
 use lib.Ieee.{Float}
-use Rattle.distr.specs.Gaussian.{literal, support}
+use Rattle.distr.specs.Constants.{literal}
+use Rattle.distr.specs.Gaussian.{support}
 use Rattle.distr.specs.Making.{gaussianNumber}
 use Rattle.gaussian_core.specs.declared.parameters.MadeParameters.{MadeParameters}
 

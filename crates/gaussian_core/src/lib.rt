@@ -1,3 +1,5 @@
-// Inner crate of primus_distr: the record of a deviation and its support, which the Gaussian backends share; and the magnitude of a signed integer.
+// Inner crate of primus_distr: what the Gaussian backends share: the record of a deviation and its support, the magnitude of a signed
+// integer, and the test of a table that never falls.
 pub mod encode;
 pub mod parameters;
+pub mod rising;

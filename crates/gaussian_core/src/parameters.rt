@@ -1,18 +1,15 @@
 // Making a Gaussian's record: the deviation is judged, and its support derived, once.
 use distr::gaussian_parameters::GaussianParameters;
+use distr::limits::DEFAULT_TAIL_CUT;
+use distr::limits::MAX_MAGNITUDE;
+use distr::limits::MIN_STANDARD_DEVIATION;
+use distr::refusal::INVALID_STANDARD_DEVIATION;
+use distr::refusal::MAXIMUM_MAGNITUDE_TOO_LARGE;
 ghost use mathlib.Core.Path.{_≡_};
 ghost use Prim.Native.Nat.{max};
 ghost use Rattle.distr.specs.Making.{badDeviation};
 ghost use Rattle.gaussian_core.specs.Made.{madeParameters, refused};
 
-// Smallest deviation that a Gaussian takes.
-pub const MIN_STANDARD_DEVIATION: f64 = 0.7;
-// Number of standard deviations retained on each side of zero.
-pub const DEFAULT_TAIL_CUT: f64 = 12.0;
-// Largest magnitude drawn by a cumulative table; above it the layered draw serves.
-pub const CDT_MAX_MAGNITUDE: u64 = 255;
-// Largest magnitude of a Gaussian.
-pub const MAX_MAGNITUDE: u64 = 4095;
 // 2^64, the end of what a u64 holds.
 const U64_RANGE_END_AS_F64: f64 = 18446744073709551616.0;
 
@@ -58,15 +55,15 @@ pub fn new_parameters(standard_deviation: f64) -> MadeParameters
     ensures { λ r. ⌜ r ≡ madeParameters «standard_deviation» ⌝ }
 {
     if bad_deviation(standard_deviation) {
-        return refuse(2);
+        return refuse(INVALID_STANDARD_DEVIATION);
     }
     let product = standard_deviation * DEFAULT_TAIL_CUT;
     if !(product < U64_RANGE_END_AS_F64) {
-        return refuse(3);
+        return refuse(MAXIMUM_MAGNITUDE_TOO_LARGE);
     }
     let maximum_magnitude = at_least_one(std::num::truncating_f64_to_u64(product));
     if MAX_MAGNITUDE < maximum_magnitude {
-        return refuse(3);
+        return refuse(MAXIMUM_MAGNITUDE_TOO_LARGE);
     }
     MadeParameters {
         number: 0,

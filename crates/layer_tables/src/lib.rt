@@ -1,7 +1,9 @@
 // Inner crate of primus_distr: the lent tables of the layered Gaussian, judged before a draw (number 13). The loops have no way out but their end.
-use rising::rising_ok;
+use distr::refusal::INVALID_LAYER_TABLES;
+use gaussian_core::rising::rising_ok;
 ghost use mathlib.Core.Bool.{not};
 ghost use mathlib.Core.Path.{_≡_};
+ghost use Rattle.distr.specs.Constants.{invalidLayerTables};
 ghost use Rattle.distr.specs.Making.{refuse};
 ghost use Rattle.distr.specs.Layered.{allFinite, falls, allInUnit, heightList, curveList, layerTables};
 
@@ -105,11 +107,11 @@ pub fn layer_number(
     curve: &[f64],
 ) -> u32
     ensures { λ r. ⌜ r ≡ refuse (not (layerTables «maximum_magnitude»
-        (record { endpoints = now (endpoints .entry); heights = now (heights .entry); curve = now (curve .entry) }))) 13 ⌝ }
+        (record { endpoints = now (endpoints .entry); heights = now (heights .entry); curve = now (curve .entry) }))) invalidLayerTables ⌝ }
 {
     if layer_tables_ok(maximum_magnitude, endpoints, heights, curve) {
         0
     } else {
-        13
+        INVALID_LAYER_TABLES
     }
 }

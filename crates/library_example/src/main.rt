@@ -12,6 +12,7 @@ use primus_distr::SecretKeySampler;
 use primus_distr::SignedDiscreteGaussian;
 use primus_distr::TernarySampler;
 use primus_distr::crt_row;
+use primus_distr::crt_row_range;
 use primus_distr::residues;
 use primus_distr::signed;
 
@@ -31,7 +32,7 @@ fn keys() {
 }
 
 // Two errors of eta 2 over the moduli 5 and 7, a row for each modulus: the 64-bit words 12 and 7 give -2 and 1 (marked case 6), so
-// the rows are 3 1 and 5 1 (marked case 11). The row of one modulus is that part of the output.
+// the rows are 3 1 and 5 1 (marked case 11). The row of one modulus is that part of the output, from 2 up to 4.
 fn errors() {
     let words = [12, 0, 7, 0];
     let made = ErrorSampler::try_new(ErrorDistribution::CenteredBinomial { eta: 2 });
@@ -39,8 +40,14 @@ fn errors() {
     let mut rows = [9u64; 4];
     let answer = sampler.sample_crt_to(&mut rows, 2, &[5, 7], &[], &[], &[], &[], &words, 0);
     print::line(b"errors over 5 and 7", answer, &rows);
-    let row = crt_row(&mut rows, 2, 2, 1);
+    let row = crt_row(&rows, 2, 2, 1);
     print::line(b"the row of 7", answer, row);
+    let range = crt_row_range(4, 2, 2, 1);
+    print::line(
+        b"where it lies",
+        answer,
+        &[range.start as u64, range.end as u64],
+    );
 }
 
 // One error of eta 2, without tables: the 64-bit word 7 gives 1 (marked case 6).

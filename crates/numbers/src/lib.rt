@@ -1,8 +1,16 @@
-// Inner crate of primus_distr: the numbers that refuse a draw by its place and its length, before it looks at a word.
+// Inner crate of primus_distr: the numbers that refuse a draw by its place and its length, before it looks at a word; and the answer of a
+// draw that reads one 64-bit word for each coefficient.
+use distr::limits::MAX_OUTPUT;
+use distr::refusal::INVALID_BLOCK_LENGTH;
+use distr::refusal::INVALID_WEIGHT;
+use distr::refusal::OUTPUT_TOO_LONG;
+use distr::refusal::PAST_END;
 ghost use mathlib.Core.Path.{_≡_};
 ghost use mathlib.Core.List.{[], _∷_};
 ghost use Prim.Native.Nat.{_+_};
 ghost use Rattle.distr.specs.Numbers.{firstOf, pastEnd, tooLong, badWeight, badBlocks};
+
+pub mod wide_words;
 
 // What refuses a draw of n coefficients from `place` in `count` words: 22 past the end of the words, 6 too long, or the draw's own number
 // of a length, a weight or a table, 0 where that is good.
@@ -10,10 +18,10 @@ pub fn draw_number(count: usize, place: usize, n: usize, own: u32) -> u32
     ensures { λ r. ⌜ r ≡ firstOf (pastEnd count place ∷ tooLong n ∷ own ∷ []) ⌝ }
 {
     if count < place {
-        return 22;
+        return PAST_END;
     }
-    if 65536 < n {
-        return 6;
+    if MAX_OUTPUT < n {
+        return OUTPUT_TOO_LONG;
     }
     own
 }
@@ -23,9 +31,9 @@ pub fn weight_number(first: usize, second: usize, length: usize) -> u32
     ensures { λ r. ⌜ r ≡ badWeight (first + second) length ⌝ }
 {
     if length < first {
-        7
+        INVALID_WEIGHT
     } else if length - first < second {
-        7
+        INVALID_WEIGHT
     } else {
         0
     }
@@ -36,12 +44,12 @@ pub fn block_number(block_size: usize, length: usize) -> u32
     ensures { λ r. ⌜ r ≡ badBlocks «block_size» length ⌝ }
 {
     if length == 0 {
-        8
+        INVALID_BLOCK_LENGTH
     } else if block_size == 0 {
-        8
+        INVALID_BLOCK_LENGTH
     } else if length % block_size == 0 {
         0
     } else {
-        8
+        INVALID_BLOCK_LENGTH
     }
 }

@@ -16,7 +16,7 @@ use Rattle.distr.proofs.Reading.{many-word}
 use Rattle.distr.proofs.Writing.{map-append, map-map, map-replicate, map-take}
 use Rattle.distr.proofs.Drawing.{rule-got, rule-short}
 use Rattle.numbers.proofs.Refusing.{drawNumber, number-passed, rule-refused}
-use Rattle.packed.specs.Serving.{Serves}
+use Rattle.packed.specs.Tabled.{DrawsByTable}
 use Rattle.packed.proofs.Packing.{enough}
 
 -- the table's entries are the values of digits below the base
@@ -50,9 +50,9 @@ module _ {A : Type 0} (write : List ℤ → List A) (f : ℤ → A) (writes : (c
       ∙ sym (rule-short write 0 rule words place out (passed .0) (passed .1) refl e)
 
   -- 0: the place after the words read, and the coefficients as the output holds them
-  reached : (cs : List ℤ) (rest : List ℕ) {out′ : List A} {at : ℕ} → readBy rule (drop place words) ≡ got cs rest
+  filled : (cs : List ℤ) (rest : List ℕ) {out′ : List A} {at : ℕ} → readBy rule (drop place words) ≡ got cs rest
       → at ≡ length words - length rest → out′ ≡ map f cs → record { number = 0; place = at; output = out′ } ≡ ruleDraw write 0 rule words place out
-  reached cs rest e p o =
+  filled cs rest e p o =
       let passed = number-passed (length words) place (length out) 0 number good in
       ap₂ (λ (j : ℕ) (l : List A). record { number = 0; place = j; output = l }) p (o ∙ sym (writes cs))
       ∙ sym (rule-got write 0 rule words place out (passed .0) (passed .1) refl cs rest e)
@@ -60,33 +60,33 @@ module _ {A : Type 0} (write : List ℤ → List A) (f : ℤ → A) (writes : (c
 -- Draws packed into m words: its number decides, and then the test of the words' number, whatever rule the entries hold the values of.
 module _ {A : Type 0} (z : A) (entry : ℕ → A) (base each m : ℕ) (words : List ℕ) (place : ℕ) (out : List A)
     {k : ℕ} (number : k ≡ drawNumber (length words) place (length out) 0) where
-  pub serves-refused : (k ≡ 0 → ⊥) → Serves z entry base each m words place out (record { number = k; place = place; output = out })
-  serves-refused some = record {
-    serves = λ write f value writes zeros agree. rule-refused write 0 words place out number (packed base each m (length out) value) some;
+  pub table-refused : (k ≡ 0 → ⊥) → DrawsByTable z entry base each m words place out (record { number = k; place = place; output = out })
+  table-refused some = record {
+    draws = λ write f value writes zeros agree. rule-refused write 0 words place out number (packed base each m (length out) value) some;
   }
 
-  pub serves-lacking : {out′ : List A} → k ≡ 0 → length words - place < m → out′ ≡ replicate (length out) z
-      → Serves z entry base each m words place out (record { number = 23; place = place; output = out′ })
+  pub table-lacking : {out′ : List A} → k ≡ 0 → length words - place < m → out′ ≡ replicate (length out) z
+      → DrawsByTable z entry base each m words place out (record { number = 23; place = place; output = out′ })
   unfolding mapRead
-  serves-lacking good l o = record {
-    serves = λ write f value writes zeros agree.
+  table-lacking good l o = record {
+    draws = λ write f value writes zeros agree.
         lacking write f writes (packed base each m (length out) value) words place out number good
         (rw (many-word m (drop place words), lt-leb m (length (drop place words)) (rw (length-drop place words) (omega arith))))
         (o ∙ ap (replicate (length out)) zeros);
   }
 
-  pub serves-reached : {out′ : List A} → k ≡ 0 → 0 < base → m ≤ length words - place → length out ≤ m * each
+  pub table-filled : {out′ : List A} → k ≡ 0 → 0 < base → m ≤ length words - place → length out ≤ m * each
       → out′ ≡ map entry (take (length out) (split base each (drop place words)))
-      → Serves z entry base each m words place out (record { number = 0; place = place + m; output = out′ })
+      → DrawsByTable z entry base each m words place out (record { number = 0; place = place + m; output = out′ })
   unfolding mapRead
-  serves-reached good b l fits o =
+  table-filled good b l fits o =
       let passed = number-passed (length words) place (length out) 0 number good in
       let n : ℕ = length out in
       let ws : List ℕ = drop place words in
       let there : m ≤ length ws = rw (length-drop place words) (omega arith) in
       record {
-        serves = λ write f value writes zeros agree.
-            reached write f writes (packed base each m n value) words place out number good
+        draws = λ write f value writes zeros agree.
+            filled write f writes (packed base each m n value) words place out number good
             (map value (take n (split base each (take m ws)))) (drop m ws)
             (rw (many-word m ws, le-leb m (length ws) there))
             (rw (length-drop m ws, length-drop place words) (omega arith))
@@ -116,11 +116,11 @@ module _ {A : Type 0} (write : List ℤ → List A) (f : ℤ → A) (writes : (c
       go (got ds rest) p = let never : _≡_ {A = ℕ} 0 1 = cc in absurd (omega arith)
       go short p = refl
 
-  pub trits-reached : {out′ : List A} {at : ℕ} → ((d : ℕ) → d < 3 → entry d ≡ f (tritValue d)) → at ≤ length words
+  pub trits-filled : {out′ : List A} {at : ℕ} → ((d : ℕ) → d < 3 → entry d ≡ f (tritValue d)) → at ≤ length words
       → got out′ (drop at words) ≡ tritsRead bytesRead
       → record { number = 0; place = at; output = out′ } ≡ ruleDraw write 0 (uniformTernary (length out)) words place out
   unfolding mapRead
-  trits-reached {out′} {at} agree h e = go bytesRead refl e
+  trits-filled {out′} {at} agree h e = go bytesRead refl e
     where
       go : (r : Read (List ℕ)) → bytesRead ≡ r → got out′ (drop at words) ≡ tritsRead r
           → record { number = 0; place = at; output = out′ } ≡ ruleDraw write 0 (uniformTernary (length out)) words place out
@@ -128,11 +128,11 @@ module _ {A : Type 0} (write : List ℤ → List A) (f : ℤ → A) (writes : (c
           let n : ℕ = length out in
           let held : ℕ → A = λ d. f (tritValue d) in
           let stopped : rest ≡ drop at words = cc in
-          let filled : out′ ≡ map entry (take n (split 3 5 ds)) = cc in
-          reached write f writes (uniformTernary n) words place out number good (map tritValue (take n (split 3 5 ds))) rest
+          let looked-up : out′ ≡ map entry (take n (split 3 5 ds)) = cc in
+          filled write f writes (uniformTernary n) words place out number good (map tritValue (take n (split 3 5 ds))) rest
           (ap (mapRead (λ ds′. map tritValue (take n (split 3 5 ds′)))) b)
           (rw (stopped, length-drop at words) (omega arith))
-          (filled ∙ map-taken 3 entry held (omega arith) agree n 5 ds ∙ sym (map-map f tritValue (take n (split 3 5 ds))))
+          (looked-up ∙ map-taken 3 entry held (omega arith) agree n 5 ds ∙ sym (map-map f tritValue (take n (split 3 5 ds))))
       go short b p = let never : _≡_ {A = ℕ} 0 1 = cc in absurd (omega arith)
 
 -- A claim about the digits below two, three and four, one by one.

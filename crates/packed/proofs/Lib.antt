@@ -3,4 +3,4 @@ pub mod Pairing
 pub mod Storing
 pub mod Packing
 pub mod Deciding
-pub mod Going
+pub mod TritLoop

@@ -2,14 +2,15 @@
 use mathlib.Core.Path.{_≡_, refl, sym, ap, ap₂, _∙_}
 use mathlib.Core.List.{List, [], _∷_, _++_, map, append-nil}
 use Prim.Native.Nat.{ℕ, zero, suc, _+_, _-_, _*_, _<_, _≤_}
-use native.Mathlib.Nat.{zero-mul, suc-mul, add-comm, le-of-lt, le-of-eq, mul-le-mul-right}
+use native.Mathlib.Nat.{zero-mul, suc-mul, add-comm, le-of-lt, le-of-eq, le-antisymm, mul-le-mul-right, lt-of-mul-lt-mul-right}
 use native.Mathlib.Omega.{arith}
 use lib.ListN.{length, getD, take, drop, length-append, length-drop, length-map}
 use lib.Seq.{paste, length-paste, take-append-add, drop-append-add, take-append-le, take-take, take-add}
 use lib.Seq.{drop-drop, take-at, drop-at, drop-cons, getD-drop, length-take-le, drop-length, take-nil, drop-nil}
 use Rattle.distr.specs.Packed.{digits, split}
 use Rattle.distr.proofs.Writing.{written, map-append, map-take, map-drop}
-use Rattle.packed.specs.Pairs.{single, Paired}
+use Rattle.packed.specs.Pairs.{digitValue}
+use Rattle.packed.specs.Cutting.{Cut}
 use Rattle.packed.proofs.Storing.{length-digits}
 
 module _ (base each : ℕ) where
@@ -88,60 +89,99 @@ from-front {A} room vs out at m count h k e f =
     f ∙ ap (λ (l : List A). take at out ++ l ++ drop (at + count) out) (ap (take count) e ∙ front)
 
 module _ {A : Type 0} (base each : ℕ) (z : A) (pairs : List A) (words : List ℕ) (place : ℕ) (out₀ : List A) where
-  -- the values of the first p digits from a place on are written, as the table of pairs has them
-  pub record Filled (p : ℕ) (out : List A) : Type 0 where
+  abbrev values : List A
+  values = map (digitValue z pairs) (split base each (drop place words))
+
+  -- the values of the words from a place up to the next one are written, as the table of pairs has them
+  pub record Filled (at next : ℕ) (out : List A) : Type 0 where
+    pub cut : Cut z pairs base each
+    pub whole : at ≡ (next - place) * each
+    pub after : place ≤ next
+    pub fits : at ≤ length out₀
     pub sized : length out ≡ length out₀
-    pub paired : Paired base z pairs
-    pub holds : out ≡ written (map (single z pairs) (split base each (drop place words))) p out₀
+    pub holds : out ≡ written values at out₀
 
   abbrev stored : ℕ → List A
-  stored i = map (single z pairs) (digits base each (getD words (place + i) 0))
+  stored next = map (digitValue z pairs) (digits base each (getD words next 0))
 
-  length-stored : (i : ℕ) → length (stored i) ≡ each
-  length-stored i = length-map (digits base each (getD words (place + i) 0)) (single z pairs) ∙ length-digits base each (getD words (place + i) 0)
+  length-stored : (next : ℕ) → length (stored next) ≡ each
+  length-stored next = length-map (digits base each (getD words next 0)) (digitValue z pairs) ∙ length-digits base each (getD words next 0)
 
-  pub filled-none : Paired base z pairs → Filled 0 out₀
-  filled-none p = record { sized = refl; paired = p; holds = refl }
-
-  -- a word's digits, or the lowest of them, more
-  pub filled-more : (i count : ℕ) {p : ℕ} {out out′ : List A} → p ≡ i * each + count → p ≤ length out₀ → place + i < length words → count ≤ each
-      → Filled (i * each) out → out′ ≡ paste out (i * each) (stored i) count → Filled p out′
-  filled-more i count {out = out} e r h k s f =
-      let ws : List ℕ = drop place words in
-      let value : ℕ → A = single z pairs in
-      let xs : List A = map value (split base each ws) in
-      let vs : List A = map value (digits base each (getD ws i 0)) in
-      let there : i < length ws = rw (length-drop place words) (omega arith) in
-      let n = s .sized in
+  pub filled-none : Cut z pairs base each → Filled 0 place out₀
+  filled-none c =
+      let none : place - place ≡ 0 = omega arith in
       record {
-        sized = ap length f ∙ length-paste out (i * each) (stored i) count (omega arith) (rw (length-stored i) k) ∙ n;
-        paired = s .paired;
-        holds =
-            f
-            ∙ ap₂ (λ (l : List A) (w : ℕ). paste l (i * each) (map value (digits base each w)) count) (s .holds) (sym (getD-drop place words i 0))
-            ∙ written-paste xs out₀ vs (i * each) count
-            (rw (length-values base each value ws) (mul-le-mul-right each (le-of-lt there))) (next-values base each value ws i count there k)
-            ∙ ap (λ (j : ℕ). written xs j out₀) (sym e);
+        cut = c;
+        whole = sym (ap (λ (k : ℕ). k * each) none ∙ zero-mul each);
+        after = omega arith;
+        fits = omega arith;
+        sized = refl;
+        holds = refl;
       }
 
-  pub filled-all : {p : ℕ} {out : List A} → p ≡ length out₀ → Filled p out
-      → out ≡ map (single z pairs) (take (length out₀) (split base each (drop place words)))
-  filled-all e s =
-      let value : ℕ → A = single z pairs in
-      let xs : List A = map value (split base each (drop place words)) in
-      s .holds
-      ∙ ap (λ (j : ℕ). written xs j out₀) e
-      ∙ ap (λ (l : List A). take (length out₀) xs ++ l) (drop-length out₀)
-      ∙ append-nil (take (length out₀) xs)
-      ∙ sym (map-take value (length out₀) (split base each (drop place words)))
+  -- where a value is still wanted there is a word
+  pub word-there : {at next : ℕ} {out : List A} → length out₀ ≤ (length words - place) * each → at < length out₀ → Filled at next out → next < length words
+  word-there {at} {next} h l s =
+      let w = s .whole in
+      let p = s .after in
+      let less : next - place < length words - place = lt-of-mul-lt-mul-right each (omega arith) in
+      omega arith
+
+  -- a word's digits, or the lowest of them, more
+  filled-next : (count : ℕ) {at next : ℕ} {out out′ : List A} → at + count ≤ length out₀ → next < length words → count ≤ each
+      → Filled at next out → out′ ≡ paste out at (stored next) count → (length out′ ≡ length out₀) × (out′ ≡ written values (at + count) out₀)
+  filled-next count {at} {next} {out} r h k s f =
+      let ws : List ℕ = drop place words in
+      let value : ℕ → A = digitValue z pairs in
+      let i : ℕ = next - place in
+      let p = s .after in
+      let n = s .sized in
+      let here : place + i ≡ next = omega arith in
+      let there : i < length ws = rw (length-drop place words) (omega arith) in
+      let word : getD ws i 0 ≡ getD words next 0 = getD-drop place words i 0 ∙ ap (λ (j : ℕ). getD words j 0) here in
+      let begins : take count (stored next) ≡ take count (drop at values) =
+      ap (λ (w : ℕ). take count (map value (digits base each w))) (sym word)
+      ∙ next-values base each value ws i count there k
+      ∙ ap (λ (j : ℕ). take count (drop j values)) (sym (s .whole)) in
+      let passed : at ≤ length values =
+      rw (s .whole, length-values base each value ws) (mul-le-mul-right each (le-of-lt there)) in (
+        ap length f ∙ length-paste out at (stored next) count (omega arith) (rw (length-stored next) k) ∙ n,
+        f ∙ ap (λ (l : List A). paste l at (stored next) count) (s .holds) ∙ written-paste values out₀ (stored next) at count passed begins,
+      )
+
+  pub filled-more : {at next : ℕ} {out out′ : List A} → at + each ≤ length out₀ → next < length words → Filled at next out
+      → out′ ≡ paste out at (stored next) each → Filled (at + each) (next + 1) out′
+  filled-more {at} {next} r h s f =
+      let p = s .after in
+      let one-more : next + 1 - place ≡ suc (next - place) = omega arith in
+      let more = filled-next each r h (le-of-eq refl) s f in
+      record {
+        cut = s .cut;
+        whole = ap (λ (k : ℕ). k + each) (s .whole) ∙ sym (ap (λ (k : ℕ). k * each) one-more ∙ suc-mul (next - place) each);
+        after = omega arith;
+        fits = r;
+        sized = more .0;
+        holds = more .1;
+      }
+
+  all-written : {out : List A} → out ≡ written values (length out₀) out₀ → out ≡ map (digitValue z pairs) (take (length out₀) (split base each (drop place words)))
+  all-written e =
+      e
+      ∙ ap (λ (l : List A). take (length out₀) values ++ l) (drop-length out₀)
+      ∙ append-nil (take (length out₀) values)
+      ∙ sym (map-take (digitValue z pairs) (length out₀) (split base each (drop place words)))
+
+  pub filled-all : {at next : ℕ} {out : List A} → length out₀ ≤ at → Filled at next out
+      → out ≡ map (digitValue z pairs) (take (length out₀) (split base each (drop place words)))
+  filled-all h s = all-written (s .holds ∙ ap (λ (j : ℕ). written values j out₀) (le-antisymm (s .fits) h))
 
   -- the last word's digits, stored aside, and as many of them as there is room for
-  pub filled-last : (i : ℕ) (room : List A) {out out′ part : List A} → i * each ≤ length out₀ → length out₀ ≤ i * each + each → place + i < length words
-      → Filled (i * each) out → part ≡ paste room 0 (stored i) each → out′ ≡ paste out (i * each) part (length out - i * each)
-      → out′ ≡ map (single z pairs) (take (length out₀) (split base each (drop place words)))
-  filled-last i room {out} a b h s e f =
-      let count : ℕ = length out₀ - i * each in
-      let fits : each ≤ length (stored i) = le-of-eq (sym (length-stored i)) in
-      filled-all {p = length out₀} refl
-      (filled-more i count (omega arith) (omega arith) h (omega arith) s
-      (from-front room (stored i) out (i * each) each count (omega arith) fits e (rw (s .sized) at f)))
+  pub filled-last : (room : List A) {at next : ℕ} {out out′ part : List A} → at < length out₀ → length out₀ ≤ at + each → next < length words
+      → Filled at next out → part ≡ paste room 0 (stored next) each → out′ ≡ paste out at part (length out - at)
+      → out′ ≡ map (digitValue z pairs) (take (length out₀) (split base each (drop place words)))
+  filled-last room {at} {next} {out} a b h s e f =
+      let count : ℕ = length out₀ - at in
+      let end : at + count ≡ length out₀ = omega arith in
+      let all : each ≤ length (stored next) = le-of-eq (sym (length-stored next)) in
+      let last = filled-next count (omega arith) h (omega arith) s (from-front room (stored next) out at each count (omega arith) all e (rw (s .sized) at f)) in
+      all-written (last .1 ∙ ap (λ (j : ℕ). written values j out₀) end)

@@ -11,7 +11,7 @@ use borrow.Author.Tests.{ltb-true, ltb-false}
 use lib.Dec.{ltb}
 use lib.ListN.{length, getD, length-append, List·getD-append}
 use lib.Seq.{getD-append-add}
-use Rattle.packed.specs.Pairs.{rowOf, rowsOf, pairsOf, single, Paired}
+use Rattle.packed.specs.Pairs.{rowOf, rowsOf, pairsOf, digitValue, Paired}
 
 module _ (base : ℕ) (positive : 0 < base) (x : ℕ) where
   -- the low digit of a digit of base², and the high one
@@ -89,8 +89,8 @@ module _ {A : Type 0} (z : A) where
 
   module _ (values : List A) (positive : 0 < length values) where
     -- a digit alone
-    pub single-of : (d : ℕ) → d < length values → single z (pairsOf values) d ≡ getD values d z
-    single-of d h =
+    pub digit-value : (d : ℕ) → d < length values → digitValue z (pairsOf values) d ≡ getD values d z
+    digit-value d h =
         let square : 1 * length values ≤ length values * length values = mul-le-mul-right (length values) positive in
         rows values values d positive (omega arith) .0 ∙ ap (λ (n : ℕ). getD values n z) (mod-eq-of-lt h)
 
@@ -99,8 +99,8 @@ module _ {A : Type 0} (z : A) where
     paired = record {
       positive = positive;
       sized = length-rows values values;
-      low = λ q h. rows values values q positive h .0 ∙ sym (single-of (q % length values) (mod-lt q positive));
-      high = λ q h. rows values values q positive h .1 ∙ sym (single-of (q / length values) (div-lt-iff-lt-mul positive .1 h));
+      low = λ q h. rows values values q positive h .0 ∙ sym (digit-value (q % length values) (mod-lt q positive));
+      high = λ q h. rows values values q positive h .1 ∙ sym (digit-value (q / length values) (div-lt-iff-lt-mul positive .1 h));
     }
 
 -- the same of a table that is equal to it: its pairs, and its digits alone, where they are what a function gives
@@ -108,5 +108,5 @@ module _ {A : Type 0} (z : A) (values : List A) (positive : 0 < length values) {
   pub made-paired : Paired (length values) z pairs
   made-paired = rw made (paired z values positive)
 
-  pub made-agrees : (g : ℕ → A) → ((d : ℕ) → d < length values → getD values d z ≡ g d) → (d : ℕ) → d < length values → single z pairs d ≡ g d
-  made-agrees g agree d h = ap (λ (ps : List A). single z ps d) made ∙ single-of z values positive d h ∙ agree d h
+  pub made-agrees : (g : ℕ → A) → ((d : ℕ) → d < length values → getD values d z ≡ g d) → (d : ℕ) → d < length values → digitValue z pairs d ≡ g d
+  made-agrees g agree d h = ap (λ (ps : List A). digitValue z ps d) made ∙ digit-value z values positive d h ∙ agree d h

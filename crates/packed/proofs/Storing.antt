@@ -1,14 +1,14 @@
 -- Storing the digits of a number, one or two at a time: after k the output has the values of its k lowest digits from a place on.
 use mathlib.Core.Path.{_≡_, refl, sym, ap, ap₂, _∙_}
 use mathlib.Core.List.{List, _∷_, map}
-use Prim.Native.Nat.{ℕ, zero, suc, _+_, _-_, _*_, _/_, _%_, _<_, _≤_}
-use native.Mathlib.Nat.{sub-zero, mod-lt, mod-eq-of-lt, mul-pos, div-div-eq-div-mul, le-antisymm}
+use Prim.Native.Nat.{ℕ, zero, suc, _+_, _-_, _*_, _/_, _%_, _^_, _<_, _≤_}
+use native.Mathlib.Nat.{sub-zero, mod-lt, mod-eq-of-lt, mul-pos, mul-le-mul, div-div-eq-div-mul, le-antisymm}
 use native.Mathlib.Numerals.{add-one}
 use native.Mathlib.Omega.{arith}
-use lib.ListN.{length, getD, drop, set, length-map, List·getD-map}
-use lib.Seq.{drop-cons, paste, paste-zero, paste-suc, length-paste}
+use lib.ListN.{length, getD, take, drop, set, length-map, List·getD-map}
+use lib.Seq.{drop-cons, take-set-le, paste, paste-zero, paste-suc, length-paste}
 use Rattle.distr.specs.Packed.{digits}
-use Rattle.packed.specs.Pairs.{single, Paired, pairSet}
+use Rattle.packed.specs.Pairs.{digitValue, Paired, pairSet}
 use Rattle.packed.proofs.Pairing.{low-digit, high-digit}
 
 pub length-digits : (base count x : ℕ) → length (digits base count x) ≡ count
@@ -56,6 +56,12 @@ module _ {A : Type 0} (base each : ℕ) (value : ℕ → A) (out₀ : List A) (a
   pub stored-length : {k x : ℕ} {out : List A} → k ≤ each → at + k ≤ length out₀ → Stored k out x → length out ≡ length out₀
   stored-length {k} h l s = ap length (s .holds) ∙ length-paste out₀ at (map value (digits base each w)) k l (rw length-values h)
 
+-- base² is a divisor that a word holds
+pub square-fits : {base : ℕ} → base < 65536 → base * base < 2 ^ 32
+square-fits {base} h =
+    let most : base ≤ 65535 = omega arith in
+    omega (arith, mul-le-mul most most)
+
 -- Two digits more by a table of pairs: one digit of base².
 module _ {A : Type 0} (base each : ℕ) (z : A) (pairs : List A) (out₀ : List A) (at w : ℕ) where
   -- what is known after k digits; the digits are looked up in the table of pairs, and the output has room for them
@@ -64,7 +70,7 @@ module _ {A : Type 0} (base each : ℕ) (z : A) (pairs : List A) (out₀ : List 
     pub even : k % 2 ≡ 0
     pub room : at + each ≤ length out₀
     pub paired : Paired base z pairs
-    pub stored : Stored base each (single z pairs) out₀ at w k out x
+    pub stored : Stored base each (digitValue z pairs) out₀ at w k out x
 
   pub pairwise-none : at + each ≤ length out₀ → Paired base z pairs → Pairwise 0 out₀ w
   pairwise-none r p = record {
@@ -72,19 +78,19 @@ module _ {A : Type 0} (base each : ℕ) (z : A) (pairs : List A) (out₀ : List 
     even = refl;
     room = r;
     paired = p;
-    stored = stored-none base each (single z pairs) out₀ at w;
+    stored = stored-none base each (digitValue z pairs) out₀ at w;
   }
 
   pub pairwise-length : {k x : ℕ} {out : List A} → Pairwise k out x → length out ≡ length out₀
   pairwise-length s =
       let r = s .room in
       let k = s .within in
-      stored-length base each (single z pairs) out₀ at w k (omega arith) (s .stored)
+      stored-length base each (digitValue z pairs) out₀ at w k (omega arith) (s .stored)
 
   pub pairwise-more : {k i x : ℕ} {out out′ : List A} → i ≡ at + k → k + 2 ≤ each → Pairwise k out x → out′ ≡ pairSet z pairs out i (x % (base * base))
       → Pairwise (k + 2) out′ (x / (base * base))
   pairwise-more {k} {i} {x} {out} f h s o =
-      let value : ℕ → A = single z pairs in
+      let value : ℕ → A = digitValue z pairs in
       let q : ℕ = x % (base * base) in
       let p = s .paired in
       let b = s .paired .positive in
@@ -105,26 +111,41 @@ module _ {A : Type 0} (base each : ℕ) (z : A) (pairs : List A) (out₀ : List 
             (stored-more base each value out₀ at w (omega arith) (omega arith) (stored-more base each value out₀ at w (omega arith) (omega arith) (s .stored)));
       }
 
-  pub pairwise-done : {k x : ℕ} {out : List A} → each ≤ k → Pairwise k out x → out ≡ paste out₀ at (map (single z pairs) (digits base each w)) each
+  pub pairwise-done : {k x : ℕ} {out : List A} → each ≤ k → Pairwise k out x → out ≡ paste out₀ at (map (digitValue z pairs) (digits base each w)) each
   pairwise-done {k} h s = rw (le-antisymm (s .within) h) at (s .stored .holds)
 
   -- one digit more, the last one, which is what is left
   pub pairwise-last : {k i x : ℕ} {out : List A} → i ≡ at + k → k + 1 ≡ each → x < base → Pairwise k out x
-      → set out i (single z pairs x) ≡ paste out₀ at (map (single z pairs) (digits base each w)) each
+      → set out i (digitValue z pairs x) ≡ paste out₀ at (map (digitValue z pairs) (digits base each w)) each
   pairwise-last {k} {i} {x} {out} f h l s =
       let r = s .room in
-      ap₂ (λ (j d : ℕ). set out j (single z pairs d)) f (sym (mod-eq-of-lt l))
-      ∙ stored-more base each (single z pairs) out₀ at w (omega arith) (omega arith) (s .stored) .holds
-      ∙ ap (paste out₀ at (map (single z pairs) (digits base each w))) h
+      ap₂ (λ (j d : ℕ). set out j (digitValue z pairs d)) f (sym (mod-eq-of-lt l))
+      ∙ stored-more base each (digitValue z pairs) out₀ at w (omega arith) (omega arith) (s .stored) .holds
+      ∙ ap (paste out₀ at (map (digitValue z pairs) (digits base each w))) h
 
--- Five trits of a byte: two pairs, and what is left.
-pub five-trits : {A : Type 0} (z : A) (pairs out₀ : List A) (at byte : ℕ) {out₁ out₂ : List A} → at + 5 ≤ length out₀ → byte < 243 → Paired 3 z pairs
-    → out₁ ≡ pairSet z pairs out₀ at (byte % 9) → out₂ ≡ pairSet z pairs out₁ (at + 2) (byte / 9 % 9)
-    → set out₂ (at + 4) (single z pairs (byte / 9 / 9)) ≡ paste out₀ at (map (single z pairs) (digits 3 5 byte)) 5
-five-trits z pairs out₀ at byte r b p e f =
-    let two = pairwise-more 3 5 z pairs out₀ at byte {i = at} (omega arith) (omega arith) (pairwise-none 3 5 z pairs out₀ at byte r p) e in
-    let four = pairwise-more 3 5 z pairs out₀ at byte refl (omega arith) two f in
-    pairwise-last 3 5 z pairs out₀ at byte refl refl (omega arith) four
+-- what stands before a pair stays
+pair-before : {A : Type 0} (z : A) (pairs out : List A) (k i q : ℕ) → k ≤ i → take k (pairSet z pairs out i q) ≡ take k out
+pair-before z pairs out k i q h = take-set-le k (set out i (getD pairs (q * 2) z)) (i + 1) _ (omega arith) ∙ take-set-le k out i _ h
+
+-- Five trits of a byte: two pairs, by remainders as differences, and what is left.
+pub five-trits : {A : Type 0} (z : A) (pairs out₀ : List A) (at byte : ℕ) {out₁ out₂ : List A} → at + 5 ≤ length out₀ → Paired 3 z pairs
+    → out₁ ≡ pairSet z pairs out₀ at (byte - byte / 9 * 9) → out₂ ≡ pairSet z pairs out₁ (at + 2) (byte / 9 - byte / 81 * 9)
+    → let out₃ = set out₂ (at + 4) (digitValue z pairs (byte / 81)) in
+    (take at out₃ ≡ take at out₀) × (byte < 243 → out₃ ≡ paste out₀ at (map (digitValue z pairs) (digits 3 5 byte)) 5)
+five-trits z pairs out₀ at byte {out₁} {out₂} r p e f =
+    let nines : byte - byte / 9 * 9 ≡ byte % 9 = omega arith in
+    let more : byte / 9 - byte / 81 * 9 ≡ byte / 9 % 9 = omega arith in
+    let top : byte / 81 ≡ byte / 9 / 9 = omega arith in (
+      take-set-le at out₂ (at + 4) _ (omega arith)
+          ∙ ap (take at) f
+          ∙ pair-before z pairs out₁ at (at + 2) (byte / 9 - byte / 81 * 9) (omega arith)
+          ∙ ap (take at) e
+          ∙ pair-before z pairs out₀ at at (byte - byte / 9 * 9) (omega arith),
+      λ b.
+          let two = pairwise-more 3 5 z pairs out₀ at byte {i = at} (omega arith) (omega arith) (pairwise-none 3 5 z pairs out₀ at byte r p) (rw nines at e) in
+          let four = pairwise-more 3 5 z pairs out₀ at byte refl (omega arith) two (rw more at f) in
+          rw top (pairwise-last 3 5 z pairs out₀ at byte refl refl (omega arith) four),
+    )
 
 -- Copying element by element.
 module _ {A : Type 0} (out₀ : List A) (at : ℕ) (part : List A) where

@@ -2,5 +2,5 @@
 -- the rules alone.
 pub mod Pairs
 pub mod Cutting
-pub mod Serving
-pub mod Reach
+pub mod Tabled
+pub mod Trits

@@ -19,18 +19,18 @@ abbrev pub pairsOf : {A : Type 0} → List A → List A
 pairsOf values = rowsOf values values
 
 -- What a digit stands for: the first of its pair with a high digit 0; z past the table's end.
-abbrev pub single : {A : Type 0} → A → List A → ℕ → A
-single z pairs d = getD pairs (d * 2) z
+abbrev pub digitValue : {A : Type 0} → A → List A → ℕ → A
+digitValue z pairs d = getD pairs (d * 2) z
 
-abbrev pub singles : {A : Type 0} → A → List A → List ℕ → List A
-singles z pairs ds = map (single z pairs) ds
+abbrev pub digitValues : {A : Type 0} → A → List A → List ℕ → List A
+digitValues z pairs ds = map (digitValue z pairs) ds
 
 -- A table of pairs of digits below a base.
 pub record Paired {A : Type 0} (base : ℕ) (z : A) (pairs : List A) : Type 0 where
   pub positive : 0 < base
   pub sized : length pairs ≡ base * base * 2
-  pub low : (q : ℕ) → q < base * base → getD pairs (q * 2) z ≡ single z pairs (q % base)
-  pub high : (q : ℕ) → q < base * base → getD pairs (q * 2 + 1) z ≡ single z pairs (q / base)
+  pub low : (q : ℕ) → q < base * base → getD pairs (q * 2) z ≡ digitValue z pairs (q % base)
+  pub high : (q : ℕ) → q < base * base → getD pairs (q * 2 + 1) z ≡ digitValue z pairs (q / base)
 
 -- The output with a pair stored.
 abbrev pub pairSet : {A : Type 0} → A → List A → List A → ℕ → ℕ → List A

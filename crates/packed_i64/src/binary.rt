@@ -19,8 +19,7 @@ pub fn sample_uniform_binary_values_to(
     words: &[u32],
     place: usize,
 ) -> Answer
-    ensures { λ r. ⌜ outcome r (now (output .exit))
-        ≡ ruleDraw (held encoding) 0 (uniformBinary (length (now (output .entry)))) (now (words .entry)) place (now (output .entry)) ⌝ }
+    ensures { λ r. ⌜ outcome r (now (output .exit)) ≡ ruleDraw (held encoding) 0 (uniformBinary (length (now (output .entry)))) (now (words .entry)) place (now (output .entry)) ⌝ }
 {
     let pairs = pairs::bits(0, 1);
     let words_needed = needed::binary_words(output.len());

@@ -3,14 +3,17 @@ use crate::Out;
 use crate::clear;
 use crate::stores;
 use distr::answer::Answer;
+use distr::answer::refused;
+use distr::answer::succeeded;
+use distr::refusal::OUT_OF_WORDS;
 use packed::width::Width;
 ghost use Prim.Native.Nat.{_*_, _≤_};
 ghost use lib.ListN.{length};
 ghost use Rattle.distr.specs.Draw.{outcome};
 ghost use Rattle.output_i64.specs.Out.{zero};
-ghost use Rattle.packed.specs.Pairs.{single, Paired};
-ghost use Rattle.packed.specs.Cutting.{baseOf, eachOf};
-ghost use Rattle.packed.specs.Serving.{Serves};
+ghost use Rattle.packed.specs.Pairs.{digitValue, Paired};
+ghost use Rattle.packed.specs.Cutting.{digitBase, digitsAWord};
+ghost use Rattle.packed.specs.Tabled.{DrawsByTable};
 
 // `words_needed` words are read, which hold digits enough.
 pub(crate) fn draw(
@@ -21,22 +24,19 @@ pub(crate) fn draw(
     words: &[u32],
     place: usize,
 ) -> Answer
-    requires { ⌜ Paired (baseOf width) zero (now pairs) × (length (now output) ≤ «words_needed» * eachOf width) ⌝ }
-    ensures { λ r. ⌜ Serves zero (single zero (now (pairs .entry))) (baseOf width) (eachOf width) «words_needed»
+    requires { ⌜ Paired (digitBase width) zero (now pairs) × (length (now output) ≤ «words_needed» * digitsAWord width) ⌝ }
+    ensures { λ r. ⌜ DrawsByTable zero (digitValue zero (now (pairs .entry))) (digitBase width) (digitsAWord width) «words_needed»
         (now (words .entry)) place (now (output .entry)) (outcome r (now (output .exit))) ⌝ }
 {
     let count = words.len();
     let number = numbers::draw_number(count, place, output.len(), 0);
     if number != 0 {
-        return Answer { number, place };
+        return refused(number, place);
     }
     if count - place < words_needed {
         clear(output);
-        return Answer { number: 23, place };
+        return refused(OUT_OF_WORDS, place);
     }
     stores::fill_words(output, pairs, width, words, place);
-    Answer {
-        number: 0,
-        place: place + words_needed,
-    }
+    succeeded(place + words_needed)
 }

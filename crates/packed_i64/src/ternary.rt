@@ -7,6 +7,9 @@ use crate::minus_one;
 use crate::pairs;
 use crate::stores;
 use distr::answer::Answer;
+use distr::answer::refused;
+use distr::answer::succeeded;
+use distr::refusal::OUT_OF_WORDS;
 use packed::needed;
 use packed::width::Width;
 ghost use mathlib.Core.Path.{_≡_};
@@ -23,11 +26,9 @@ pub fn sample_sparse_ternary_values_to(
     words: &[u32],
     place: usize,
 ) -> Answer
-    ensures { λ r. ⌜ outcome r (now (output .exit))
-        ≡ ruleDraw (held encoding) 0 (sparseTernary (length (now (output .entry)))) (now (words .entry)) place (now (output .entry)) ⌝ }
+    ensures { λ r. ⌜ outcome r (now (output .exit)) ≡ ruleDraw (held encoding) 0 (sparseTernary (length (now (output .entry)))) (now (words .entry)) place (now (output .entry)) ⌝ }
 {
-    let minus = minus_one(encoding);
-    let pairs = pairs::groups(0, 0, 1, minus);
+    let pairs = pairs::groups(0, 0, 1, minus_one(encoding));
     let words_needed = needed::sparse_words(output.len());
     draws::draw(output, &pairs, Width::Groups, words_needed, words, place)
 }
@@ -39,24 +40,19 @@ pub fn sample_uniform_ternary_values_to(
     words: &[u32],
     place: usize,
 ) -> Answer
-    ensures { λ r. ⌜ outcome r (now (output .exit))
-        ≡ ruleDraw (held encoding) 0 (uniformTernary (length (now (output .entry)))) (now (words .entry)) place (now (output .entry)) ⌝ }
+    ensures { λ r. ⌜ outcome r (now (output .exit)) ≡ ruleDraw (held encoding) 0 (uniformTernary (length (now (output .entry)))) (now (words .entry)) place (now (output .entry)) ⌝ }
 {
     let number = numbers::draw_number(words.len(), place, output.len(), 0);
     if number != 0 {
-        return Answer { number, place };
+        return refused(number, place);
     }
-    let minus = minus_one(encoding);
-    let pairs = pairs::trits(minus, 0, 1);
-    let reached = stores::fill_trits(output, &pairs, words, place);
-    if reached.found {
-        return Answer {
-            number: 0,
-            place: reached.place,
-        };
+    let pairs = pairs::trits(minus_one(encoding), 0, 1);
+    let ended = stores::fill_trits(output, &pairs, words, place);
+    if ended.found {
+        return succeeded(ended.place);
     }
     clear(output);
-    Answer { number: 23, place }
+    refused(OUT_OF_WORDS, place)
 }
 
 // Signs alone, for a key without a 0: 32 bits a word, lowest first, 1 for 1 and 0 for −1.
@@ -66,11 +62,9 @@ pub fn sample_signs_to(
     words: &[u32],
     place: usize,
 ) -> Answer
-    ensures { λ r. ⌜ outcome r (now (output .exit))
-        ≡ ruleDraw (held encoding) 0 (signsAlone (length (now (output .entry)))) (now (words .entry)) place (now (output .entry)) ⌝ }
+    ensures { λ r. ⌜ outcome r (now (output .exit)) ≡ ruleDraw (held encoding) 0 (signsAlone (length (now (output .entry)))) (now (words .entry)) place (now (output .entry)) ⌝ }
 {
-    let minus = minus_one(encoding);
-    let pairs = pairs::bits(minus, 1);
+    let pairs = pairs::bits(minus_one(encoding), 1);
     let words_needed = needed::sign_words(output.len());
     draws::draw(output, &pairs, Width::Bits, words_needed, words, place)
 }

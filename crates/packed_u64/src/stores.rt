@@ -1,9 +1,11 @@
 // The loops that store, two digits at a time by a table of pairs. The output and the words may overlap for all the compiler knows: what is read stands in a local first.
 use crate::Out;
 use packed::bytes::ACCEPTED;
-use packed::bytes::Reached;
+use packed::bytes::Ended;
+use packed::bytes::WordsStored;
 use packed::width::Width;
 ghost use mathlib.Core.Path.{_≡_};
+ghost use mathlib.Core.List.{[], _∷_};
 ghost use Prim.Native.Nat.{_+_, _*_, _-_, _/_, _<_, _≤_};
 ghost use lib.ListN.{length, take, drop};
 ghost use lib.Seq.{paste};
@@ -11,156 +13,180 @@ ghost use Rattle.distr.specs.Words.{mapRead};
 ghost use Rattle.distr.specs.Packed.{digits, split};
 ghost use Rattle.distr.specs.UniformTernary.{bytes};
 ghost use Rattle.output_u64.specs.Out.{zero};
-ghost use Rattle.packed.specs.Pairs.{singles, Paired, pairSet};
-ghost use Rattle.packed.specs.Cutting.{baseOf, eachOf};
-ghost use Rattle.packed.specs.Reach.{reading};
+ghost use Rattle.packed.specs.Pairs.{digitValues, Paired, pairSet};
+ghost use Rattle.packed.specs.Cutting.{Cut, digitBase, digitsAWord};
+ghost use Rattle.packed.specs.Trits.{BytesStored, tritsFrom, reading};
 
 // Stores the two numbers of the pair q, at `at` and after it.
-fn store_pair(out: &mut [Out], at: usize, pairs: &[Out], q: u32)
-    requires { ⌜ (at + 2 ≤ length (now out)) × (q * 2 + 2 ≤ length (now pairs)) ⌝ }
-    ensures { λ r. ⌜ now (out .exit) ≡ pairSet zero (now (pairs .entry)) (now (out .entry)) at q ⌝ }
+fn store_pair(output: &mut [Out], at: usize, pairs: &[Out], q: u32)
+    requires { ⌜ (at + 2 ≤ length (now output)) × (q * 2 + 2 ≤ length (now pairs)) ⌝ }
+    ensures { λ r. ⌜ now (output .exit) ≡ pairSet zero (now (pairs .entry)) (now (output .entry)) at q ⌝ }
 {
     let i = q as usize * 2;
     let first = pairs[i];
     let second = pairs[i + 1];
-    out[at] = first;
-    out[at + 1] = second;
+    output[at] = first;
+    output[at + 1] = second;
 }
 
-// The 32 bits of a word, in 16 turns.
-fn store_bits(out: &mut [Out], at: usize, pairs: &[Out], word: u32)
-    requires { ⌜ (at + 32 ≤ length (now out)) × Paired 2 zero (now pairs) ⌝ }
-    ensures { λ r. ⌜ now (out .exit) ≡ paste (now (out .entry)) at (singles zero (now (pairs .entry)) (digits 2 32 word)) 32 ⌝ }
+// The digits of a word in a base, two a turn. Each caller has a base and a count of its own that are constants, so no turn divides.
+fn store_digits(output: &mut [Out], at: usize, pairs: &[Out], base: u32, each: usize, word: u32)
+    requires { ⌜ (at + «each» ≤ length (now output)) × Cut zero (now pairs) base «each» ⌝ }
+    ensures { λ r. ⌜ now (output .exit) ≡ paste (now (output .entry)) at (digitValues zero (now (pairs .entry)) (digits base «each» word)) «each» ⌝ }
 {
+    let square = base * base;
     let mut x = word;
     let mut k = 0;
-    while k < 32 {
-        store_pair(out, at + k, pairs, x % 4);
-        x = x / 4;
+    while k < each {
+        store_pair(output, at + k, pairs, x % square);
+        x = x / square;
         k += 2;
     }
 }
 
-// The 16 two-bit groups of a word, in 8 turns.
-fn store_groups(out: &mut [Out], at: usize, pairs: &[Out], word: u32)
-    requires { ⌜ (at + 16 ≤ length (now out)) × Paired 4 zero (now pairs) ⌝ }
-    ensures { λ r. ⌜ now (out .exit) ≡ paste (now (out .entry)) at (singles zero (now (pairs .entry)) (digits 4 16 word)) 16 ⌝ }
-{
-    let mut x = word;
-    let mut k = 0;
-    while k < 16 {
-        store_pair(out, at + k, pairs, x % 16);
-        x = x / 16;
-        k += 2;
-    }
-}
-
-// The five trits of a byte: two pairs, and the last one, which is what is left.
-fn store_trits(out: &mut [Out], at: usize, pairs: &[Out], byte: u32)
-    requires { ⌜ (at + 5 ≤ length (now out)) × (byte < 243) × Paired 3 zero (now pairs) ⌝ }
-    ensures { λ r. ⌜ now (out .exit) ≡ paste (now (out .entry)) at (singles zero (now (pairs .entry)) (digits 3 5 byte)) 5 ⌝ }
+// The five trits of a byte: two pairs, and the last one, which is what is left. A byte past those accepted is stored too, so that nothing
+// branches on it, and leaves what stands before `at`. Remainders are taken by differences, which spares the compiler's 8-bit ones.
+fn store_trits(output: &mut [Out], at: usize, pairs: &[Out], byte: u32)
+    requires { ⌜ (at + 5 ≤ length (now output)) × (byte < 256) × Paired 3 zero (now pairs) ⌝ }
+    ensures { λ r. ⌜ (take at (now (output .exit)) ≡ take at (now (output .entry)))
+        × (byte < 243 → now (output .exit) ≡ paste (now (output .entry)) at (digitValues zero (now (pairs .entry)) (digits 3 5 byte)) 5) ⌝ }
 {
     let x = byte / 9;
-    store_pair(out, at, pairs, byte % 9);
-    store_pair(out, at + 2, pairs, x % 9);
-    let i = (x / 9) as usize * 2;
+    let y = byte / 81;
+    store_pair(output, at, pairs, byte - x * 9);
+    store_pair(output, at + 2, pairs, x - y * 9);
+    let i = y as usize * 2;
     let last = pairs[i];
-    out[at + 4] = last;
+    output[at + 4] = last;
+}
+
+// A byte's trits, and the place after them; a byte that is skipped leaves the place.
+fn store_byte(output: &mut [Out], at: usize, pairs: &[Out], byte: u32) -> usize
+    requires { ⌜ (at + 5 ≤ length (now output)) × (byte < 256) × Paired 3 zero (now pairs) ⌝ }
+    ensures { λ r. ⌜ BytesStored zero (now (pairs .entry)) (now (output .entry)) at (byte ∷ []) (now (output .exit)) r ⌝ }
+{
+    store_trits(output, at, pairs, byte);
+    let accepted = (byte < ACCEPTED) as usize;
+    at + 5 * accepted
+}
+
+// The trits of a word's four bytes, and the place after them.
+fn store_word(output: &mut [Out], at: usize, pairs: &[Out], word: u32) -> usize
+    requires { ⌜ (at + 20 ≤ length (now output)) × Paired 3 zero (now pairs) ⌝ }
+    ensures { λ r. ⌜ BytesStored zero (now (pairs .entry)) (now (output .entry)) at (digits 256 4 word) (now (output .exit)) r ⌝ }
+{
+    let second = word / 256;
+    let third = second / 256;
+    let one = store_byte(output, at, pairs, word % 256);
+    let two = store_byte(output, one, pairs, second % 256);
+    let three = store_byte(output, two, pairs, third % 256);
+    store_byte(output, three, pairs, third / 256 % 256)
 }
 
 // What is left of the output from `at` on becomes the front of the part: the digits of a last word or byte, stored aside whole.
-fn store_front(out: &mut [Out], at: usize, part: &[Out])
-    requires { ⌜ (at ≤ length (now out)) × (length (now out) ≤ at + length (now part)) ⌝ }
-    ensures { λ r. ⌜ now (out .exit) ≡ paste (now (out .entry)) at (now (part .entry)) (length (now (out .entry)) - at) ⌝ }
+fn store_front(output: &mut [Out], at: usize, part: &[Out])
+    requires { ⌜ (at ≤ length (now output)) × (length (now output) ≤ at + length (now part)) ⌝ }
+    ensures { λ r. ⌜ now (output .exit) ≡ paste (now (output .entry)) at (now (part .entry)) (length (now (output .entry)) - at) ⌝ }
 {
-    let count = out.len() - at;
+    let count = output.len() - at;
     let mut k = 0;
     while k < count {
         let value = part[k];
-        out[at + k] = value;
+        output[at + k] = value;
         k += 1;
     }
 }
 
-// Fills the output with what the bits from `place` on stand for. The words are enough; where the last one has bits too many,
-// they are stored aside.
-fn fill_bits(out: &mut [Out], pairs: &[Out], words: &[u32], place: usize)
-    requires { ⌜ (place + (length (now out) + 31) / 32 ≤ length (now words)) × Paired 2 zero (now pairs) ⌝ }
-    ensures { λ r. ⌜ now (out .exit)
-        ≡ singles zero (now (pairs .entry)) (take (length (now (out .entry))) (split 2 32 (drop place (now (words .entry))))) ⌝ }
+// Fills the output with what the digits from `place` on stand for, `each` of them a word. The words are enough; where the last one has
+// digits too many, they are stored aside.
+fn fill_digits(
+    output: &mut [Out],
+    pairs: &[Out],
+    base: u32,
+    each: usize,
+    words: &[u32],
+    place: usize,
+)
+    requires { ⌜ (place ≤ length (now words)) × (length (now output) ≤ (length (now words) - place) * «each») × Cut zero (now pairs) base «each» ⌝ }
+    ensures { λ r. ⌜ now (output .exit)
+        ≡ digitValues zero (now (pairs .entry)) (take (length (now (output .entry))) (split base «each» (drop place (now (words .entry))))) ⌝ }
 {
-    let n = out.len();
-    let whole = n / 32;
-    let mut i = 0;
-    while i < whole {
-        let word = words[place + i];
-        store_bits(out, i * 32, pairs, word);
-        i += 1;
+    let n = output.len();
+    let mut at = 0;
+    let mut next = place;
+    while at + each <= n {
+        let word = words[next];
+        store_digits(output, at, pairs, base, each, word);
+        at += each;
+        next += 1;
     }
-    let at = i * 32;
     if at < n {
-        let word = words[place + i];
+        let word = words[next];
         let mut last = [0; 32];
-        store_bits(&mut last, 0, pairs, word);
-        store_front(out, at, &last);
+        store_digits(&mut last, 0, pairs, base, each, word);
+        store_front(output, at, &last);
     }
 }
 
-// The same with two-bit groups.
-fn fill_groups(out: &mut [Out], pairs: &[Out], words: &[u32], place: usize)
-    requires { ⌜ (place + (length (now out) + 15) / 16 ≤ length (now words)) × Paired 4 zero (now pairs) ⌝ }
-    ensures { λ r. ⌜ now (out .exit)
-        ≡ singles zero (now (pairs .entry)) (take (length (now (out .entry))) (split 4 16 (drop place (now (words .entry))))) ⌝ }
-{
-    let n = out.len();
-    let whole = n / 16;
-    let mut i = 0;
-    while i < whole {
-        let word = words[place + i];
-        store_groups(out, i * 16, pairs, word);
-        i += 1;
-    }
-    let at = i * 16;
-    if at < n {
-        let word = words[place + i];
-        let mut last = [0; 16];
-        store_groups(&mut last, 0, pairs, word);
-        store_front(out, at, &last);
-    }
-}
-
-// One of the two, by the width: it is asked once, so that the loops keep their constants.
-pub(crate) fn fill_words(out: &mut [Out], pairs: &[Out], width: Width, words: &[u32], place: usize)
-    requires { ⌜ (place ≤ length (now words)) × (length (now out) ≤ (length (now words) - place) * eachOf width)
-        × Paired (baseOf width) zero (now pairs) ⌝ }
-    ensures { λ r. ⌜ now (out .exit) ≡ singles zero (now (pairs .entry))
-        (take (length (now (out .entry))) (split (baseOf width) (eachOf width) (drop place (now (words .entry))))) ⌝ }
+// By the width, which is asked once, so that the loops have constants.
+pub(crate) fn fill_words(
+    output: &mut [Out],
+    pairs: &[Out],
+    width: Width,
+    words: &[u32],
+    place: usize,
+)
+    requires { ⌜ (place ≤ length (now words)) × (length (now output) ≤ (length (now words) - place) * digitsAWord width)
+        × Paired (digitBase width) zero (now pairs) ⌝ }
+    ensures { λ r. ⌜ now (output .exit) ≡ digitValues zero (now (pairs .entry))
+        (take (length (now (output .entry))) (split (digitBase width) (digitsAWord width) (drop place (now (words .entry))))) ⌝ }
 {
     match width {
-        Width::Bits => fill_bits(out, pairs, words, place),
-        Width::Groups => fill_groups(out, pairs, words, place),
+        Width::Bits => fill_digits(output, pairs, 2, 32, words, place),
+        Width::Groups => fill_digits(output, pairs, 4, 16, words, place),
     }
 }
 
-// Fills the output with what the trits from `place` on stand for. `rest` is what is left of the word read last, in `left`
-// bytes. Where a word is missing the output holds what was written before.
-pub(crate) fn fill_trits(out: &mut [Out], pairs: &[Out], words: &[u32], place: usize) -> Reached
+// Whole words from `place` on, while there are any and the output has room for all their bytes.
+fn store_words(output: &mut [Out], pairs: &[Out], words: &[u32], place: usize) -> WordsStored
     requires { ⌜ (place ≤ length (now words)) × Paired 3 zero (now pairs) ⌝ }
-    ensures { λ r. ⌜ (r .place ≤ length (now (words .entry)))
-        × (reading r (now (out .exit)) (now (words .entry))
-        ≡ mapRead (λ ds. singles zero (now (pairs .entry)) (take (length (now (out .entry))) (split 3 5 ds)))
-        (bytes (drop place (now (words .entry))) ((length (now (out .entry)) + 4) / 5))) ⌝ }
+    ensures { λ r. ⌜ (r .at ≤ length (now (output .exit))) × (r .place ≤ length (now (words .entry)))
+        × (tritsFrom zero (now (pairs .entry)) (now (output .exit)) (r .at) (drop (r .place) (now (words .entry)))
+        ≡ tritsFrom zero (now (pairs .entry)) (now (output .entry)) 0 (drop place (now (words .entry)))) ⌝ }
 {
-    let n = out.len();
+    let n = output.len();
     let count = words.len();
     let mut at = 0;
+    let mut next = place;
+    while at + 20 <= n {
+        if next == count {
+            return WordsStored { at, place: next };
+        }
+        let word = words[next];
+        at = store_word(output, at, pairs, word);
+        next += 1;
+    }
+    WordsStored { at, place: next }
+}
+
+// Fills the output from `from` on with what the trits from `place` on stand for, byte by byte. `rest` is what is left of the word read
+// last, in `left` bytes. Where a word is missing the output holds what was written before.
+fn fill_bytes(output: &mut [Out], from: usize, pairs: &[Out], words: &[u32], place: usize) -> Ended
+    requires { ⌜ (from ≤ length (now output)) × (place ≤ length (now words)) × Paired 3 zero (now pairs) ⌝ }
+    ensures { λ r. ⌜ (r .place ≤ length (now (words .entry)))
+        × (reading r (now (output .exit)) (now (words .entry))
+        ≡ tritsFrom zero (now (pairs .entry)) (now (output .entry)) from (drop place (now (words .entry)))) ⌝ }
+{
+    let n = output.len();
+    let count = words.len();
+    let mut at = from;
     let mut next = place;
     let mut rest: u32 = 0;
     let mut left: usize = 0;
     while at < n {
         if left == 0 {
             if next == count {
-                return Reached {
+                return Ended {
                     found: false,
                     place,
                 };
@@ -172,21 +198,33 @@ pub(crate) fn fill_trits(out: &mut [Out], pairs: &[Out], words: &[u32], place: u
             let byte = rest % 256;
             rest = rest / 256;
             left -= 1;
-            if byte < ACCEPTED {
-                if at + 5 <= n {
-                    store_trits(out, at, pairs, byte);
-                    at += 5;
-                } else {
+            if at + 5 <= n {
+                at = store_byte(output, at, pairs, byte);
+            } else {
+                if byte < ACCEPTED {
                     let mut last = [0; 8];
                     store_trits(&mut last, 0, pairs, byte);
-                    store_front(out, at, &last);
+                    store_front(output, at, &last);
                     at = n;
                 }
             }
         }
     }
-    Reached {
+    Ended {
         found: true,
         place: next,
     }
+}
+
+// Fills the output with what the trits from `place` on stand for: whole words while the output has room for one, and the last ones byte by byte.
+// Where a word is missing the output holds what was written before.
+pub(crate) fn fill_trits(output: &mut [Out], pairs: &[Out], words: &[u32], place: usize) -> Ended
+    requires { ⌜ (place ≤ length (now words)) × Paired 3 zero (now pairs) ⌝ }
+    ensures { λ r. ⌜ (r .place ≤ length (now (words .entry)))
+        × (reading r (now (output .exit)) (now (words .entry))
+        ≡ mapRead (λ ds. digitValues zero (now (pairs .entry)) (take (length (now (output .entry))) (split 3 5 ds)))
+        (bytes (drop place (now (words .entry))) ((length (now (output .entry)) + 4) / 5))) ⌝ }
+{
+    let stored = store_words(output, pairs, words, place);
+    fill_bytes(output, stored.at, pairs, words, stored.place)
 }

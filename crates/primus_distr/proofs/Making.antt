@@ -1,6 +1,6 @@
 -- Making the three samplers of the library's face: what the parts hand back is what the definitions say; and the empty ones are refused.
 use Prim.Native.Nat.{ℕ}
-use mathlib.Core.Path.{_≡_, refl, sym, _∙_}
+use mathlib.Core.Path.{_≡_, refl, sym, ap, _∙_}
 use mathlib.Core.Bool.{Bool, true, false, cond}
 use lib.Dec.{eqb}
 use lib.Ieee.{Float, round, le, lt, sub}
@@ -12,14 +12,16 @@ use Rattle.probability.specs.Made.{madeThreshold}
 use Rattle.words.specs.Reading.{thresholdValue}
 use Rattle.ternary.specs.declared.ternary.TernaryEnds.{TernaryEnds}
 use Rattle.ternary.specs.Sampler.{samplerOf}
+use Rattle.centered_binomial.specs.declared.CenteredBinomialParameters.{CenteredBinomialParameters}
 use Rattle.centered_binomial.specs.Binomial.{etaNumber, making}
+use Rattle.gaussian_core.specs.declared.parameters.MadeParameters.{MadeParameters}
 use Rattle.gaussian_core.specs.Made.{madeParameters}
 use Rattle.secret_key_method.specs.Method.{prepared}
 use Rattle.secret_key_method.proofs.Preparing.{both-good, value-of}
 use Rattle.secret_key_sampler.specs.Sampler.{isMade}
 use Rattle.error_sampler.specs.Sampler.{isMade as isMadeError}
 use Rattle.primus_distr.specs.declared.ternary_sampler.MadeTernarySampler.{MadeTernarySampler}
-use Rattle.primus_distr.specs.declared.gaussian.MadeSignedDiscreteGaussian.{MadeSignedDiscreteGaussian}
+use Rattle.primus_distr.specs.declared.binomial.CenteredBinomial.{CenteredBinomial}
 use Rattle.primus_distr.specs.Views.{
   emptyTernary,
   makingTernary,
@@ -49,22 +51,20 @@ module _ (minus plus : Float) {k : ℕ} (e : k ≡ refuse (badProbabilities minu
       let good = both-good minus plus bad in
       rw (bad, c, a, b, value-of minus (good .0), value-of plus (good .1))
 
+-- what is made of one of two is one of what is made of the two
+of-cond : {A B : Type 0} (f : A → B) (b : Bool) (x y : A) → f (cond b x y) ≡ cond b (f x) (f y)
+of-cond f true x y = refl
+of-cond f false x y = refl
+
 pub gaussian-made : (d : Float) → record { number = madeParameters d .number; sampler = record { parameters = madeParameters d .parameters } } ≡ makingGaussian d
 unfolding madeParameters
-gaussian-made d = go (eqb (gaussianNumber d) 0) refl
-  where
-    go : (b : Bool) → eqb (gaussianNumber d) 0 ≡ b
-        → record { number = madeParameters d .number; sampler = record { parameters = madeParameters d .parameters } } ≡ makingGaussian d
-    go true e = rw e
-    go false e = rw e
+gaussian-made d =
+    of-cond (λ (m : MadeParameters). record { number = m .number; sampler = record { parameters = m .parameters } }) (eqb (gaussianNumber d) 0) _ _
 
 pub binomial-made : (eta : ℕ) → record { number = making eta .number; sampler = record { parameters = making eta .parameters } } ≡ makingBinomial eta
-binomial-made eta = go (eqb (etaNumber eta) 0) refl
-  where
-    go : (b : Bool) → eqb (etaNumber eta) 0 ≡ b
-        → record { number = making eta .number; sampler = record { parameters = making eta .parameters } } ≡ makingBinomial eta
-    go true e = rw e
-    go false e = rw e
+binomial-made eta =
+    ap (λ (s : CenteredBinomial). record { number = etaNumber eta; sampler = s })
+    (of-cond (λ (p : CenteredBinomialParameters). record { parameters = p }) (eqb (etaNumber eta) 0) _ _)
 
 -- "The empty one included."
 pub empty-ternary-not-made : isMade (asKey emptyTernary) ≡ false

@@ -6,7 +6,8 @@ use lib.Ieee.{Float}
 use Rattle.distr.specs.declared.secret_key_distr.SecretKeyDistr.the-variants.{Ternary}
 use Rattle.distr.specs.declared.error_distribution.ErrorDistribution.the-variants.{Gaussian, CenteredBinomial as BinomialOf}
 use Rattle.distr.specs.Thresholds.{threshold}
-use Rattle.distr.specs.Gaussian.{literal, support}
+use Rattle.distr.specs.Constants.{literal, invalidProbabilities}
+use Rattle.distr.specs.Gaussian.{support}
 use Rattle.distr.specs.Making.{badProbabilities, refuse, gaussianNumber}
 use Rattle.ternary.specs.declared.ternary.TernaryEnds.the-variants.{General}
 use Rattle.ternary.specs.Sampler.{samplerOf}
@@ -29,7 +30,7 @@ emptyTernary = record { «negative_one_probability» = literal 0 1; «one_probab
 -- "1 a probability not finite, outside 0..1, or negative > 1.0 − positive in f64", or 0 and the sampler.
 abbrev pub makingTernary : Float → Float → MadeTernarySampler
 makingTernary minus plus =
-    cond (badProbabilities minus plus) (record { number = 1; sampler = emptyTernary })
+    cond (badProbabilities minus plus) (record { number = invalidProbabilities; sampler = emptyTernary })
     (record {
       number = 0;
       sampler = record { «negative_one_probability» = minus; «one_probability» = plus; ends = samplerOf (threshold minus) (threshold plus) };

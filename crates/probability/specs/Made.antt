@@ -4,6 +4,7 @@ use mathlib.Core.Bool.{true, false, cond}
 use lib.Dec.{eqb}
 use lib.Ieee.{Float}
 use Rattle.distr.specs.declared.threshold.Threshold.{Threshold}
+use Rattle.distr.specs.Constants.{invalidProbabilities}
 use Rattle.distr.specs.Making.{badProbability}
 use Rattle.distr.specs.Thresholds.{threshold}
 use Rattle.probability.specs.declared.MadeThreshold.{MadeThreshold}
@@ -15,4 +16,4 @@ flagged t = cond (eqb t (2 ^ 64)) (record { full = true; below = 0 }) (record { 
 -- Number 1 and threshold 0 for what is no probability, else number 0 and ⌊p × 2^64⌋.
 unfoldable pub madeThreshold : Float → MadeThreshold
 madeThreshold p =
-    cond (badProbability p) (record { number = 1; threshold = flagged 0 }) (record { number = 0; threshold = flagged (threshold p) })
+    cond (badProbability p) (record { number = invalidProbabilities; threshold = flagged 0 }) (record { number = 0; threshold = flagged (threshold p) })

@@ -1,7 +1,9 @@
 // Inner crate of primus_distr: probabilities as f64, which ones a distribution takes, and the threshold of one among the 64-bit words.
+use distr::refusal::INVALID_PROBABILITIES;
 use distr::threshold::Threshold;
 ghost use mathlib.Core.Path.{_≡_};
 ghost use lib.Ieee.Scale.{finite};
+ghost use Rattle.distr.specs.Constants.{invalidProbabilities};
 ghost use Rattle.distr.specs.Making.{badProbability, badProbabilities, refuse};
 ghost use Rattle.probability.specs.Made.{madeThreshold};
 
@@ -30,10 +32,10 @@ fn bad_probability(p: f64) -> bool
 
 // 1 where a probability is refused or the two exceed one, as `negative > 1.0 - positive` judges it; else 0.
 pub fn check_ternary_probabilities(negative: f64, positive: f64) -> u32
-    ensures { λ r. ⌜ r ≡ refuse (badProbabilities negative positive) 1 ⌝ }
+    ensures { λ r. ⌜ r ≡ refuse (badProbabilities negative positive) invalidProbabilities ⌝ }
 {
     if bad_probability(negative) | bad_probability(positive) | (negative > 1.0 - positive) {
-        1
+        INVALID_PROBABILITIES
     } else {
         0
     }
@@ -45,7 +47,7 @@ pub fn threshold_of(p: f64) -> MadeThreshold
 {
     if bad_probability(p) {
         return MadeThreshold {
-            number: 1,
+            number: INVALID_PROBABILITIES,
             threshold: Threshold {
                 full: false,
                 below: 0,

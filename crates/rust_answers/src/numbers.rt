@@ -42,7 +42,7 @@ pub(crate) fn value_at(values: &[u64], i: usize) -> u64 {
     if i < values.len() { values[i] } else { 0 }
 }
 
-// The same as a length, a place or a count.
+// A number of a line as a length, a place or a count.
 pub(crate) fn size_at(values: &[u64], i: usize) -> usize {
     value_at(values, i) as usize
 }

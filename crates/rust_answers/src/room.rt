@@ -16,7 +16,7 @@ pub(crate) fn numbers_room() -> [u64; 50000]
     [0; 50000]
 }
 
-// For a table of reals.
+// For a table of reals, 5,000 at most.
 pub(crate) fn reals_room() -> [f64; 5000] {
     [0.0; 5000]
 }

@@ -14,20 +14,18 @@ use Rattle.distr.specs.Numbers.{firstOf, badWeight, badBlocks, lengthNumber, ga
 use Rattle.distr.specs.Draw.{readDraw, ruleDraw}
 use Rattle.probability.proofs.Made.{flagged-value}
 use Rattle.ternary.proofs.Sampling.{sampler-rule}
-use Rattle.draw_laws.proofs.Joining.{ownNumber, first-before}
+use Rattle.draw_laws.proofs.Joining.{first-before}
+use Rattle.draw_laws.proofs.Sampled.{distributionNumber, distributionDraw}
 use Rattle.secret_key_method.specs.Method.{prepared}
 use Rattle.secret_key_draws.specs.Drawing.{methodDraw}
 
 module _ {A : Type 0} (write : List ℤ → List A) (tables : Tables) (words : List ℕ) (place : ℕ) (out : List A) where
-  -- a draw's own number in the place of the distribution's
-  by-number : (d : SecretKeyDistr) (k : ℕ) → ownNumber (secret d) tables (length out) ≡ k
-      → readDraw write k (coefficients (secret d) (length out) tables) words place out
-      ≡ readDraw write (ownNumber (secret d) tables (length out)) (coefficients (secret d) (length out) tables) words place out
+  -- by a number that the distribution's comes to
+  by-number : (d : SecretKeyDistr) (k : ℕ) → distributionNumber (secret d) tables (length out) ≡ k
+      → readDraw write k (coefficients (secret d) (length out) tables) words place out ≡ distributionDraw write (secret d) tables words place out
   by-number d k e = rw e
 
-  pub prepared-draw : (d : SecretKeyDistr)
-      → methodDraw write (prepared d) tables words place out
-      ≡ readDraw write (ownNumber (secret d) tables (length out)) (coefficients (secret d) (length out) tables) words place out
+  pub prepared-draw : (d : SecretKeyDistr) → methodDraw write (prepared d) tables words place out ≡ distributionDraw write (secret d) tables words place out
   unfolding methodDraw prepared ruleDraw lengthNumber tableNumber onDeviation coefficients rule secretRule firstOf
   prepared-draw Distr.UniformBinary = refl
   prepared-draw (Distr.Binary p) = ap (λ (t : ℕ). ruleDraw write 0 (binary t (length out)) words place out) (flagged-value (threshold p))

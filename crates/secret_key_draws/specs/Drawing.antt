@@ -9,6 +9,7 @@ use Rattle.distr.specs.Thresholds.{binary}
 use Rattle.distr.specs.Insertion.{fixedComposition, fixedBinaryWeight, fixedTernaryWeight}
 use Rattle.distr.specs.Blocks.{blockBinary}
 use Rattle.distr.specs.Distribution.{Tables, gaussianRead}
+use Rattle.distr.specs.Constants.{neverMade}
 use Rattle.distr.specs.Numbers.{badWeight, badBlocks, gaussianTable}
 use Rattle.distr.specs.Draw.{Outcome, readDraw, ruleDraw}
 use Rattle.words.specs.Reading.{thresholdValue}
@@ -35,4 +36,4 @@ methodDraw write (FixedCompositionTernary minus ones) tables words place out =
 methodDraw write (Gaussian parameters) tables words place out =
     readDraw write (gaussianTable (parameters .«maximum_magnitude») tables)
     (λ ws. gaussianRead (parameters .«standard_deviation») (parameters .«maximum_magnitude») tables (length out) ws) words place out
-methodDraw write Empty tables words place out = record { number = 21; place = place; output = out }
+methodDraw write Empty tables words place out = record { number = neverMade; place = place; output = out }

@@ -1,19 +1,21 @@
 // Inner crate of primus_distr: the branch by method, once before any loop over coefficients, for one output type; this file names the output's
-// type, the others are one text for every type. The draw of a family has a shorter name here.
-use binary_i64::draw::fill_binary;
-use block_binary_i64::draw::sample_block_binary_values_to as sample_block_binary;
+// type, the others are one text for every type. Some draws of common have a shorter name here.
+use common_i64::fill_binary;
+use common_i64::fill_ternary;
+use common_i64::sample_block_binary_values_to as sample_block_binary;
+use common_i64::sample_fixed_composition_ternary_values_to as sample_composition;
+use common_i64::sample_fixed_hamming_weight_binary_values_to as sample_binary_weight;
+use common_i64::sample_fixed_hamming_weight_ternary_values_to as sample_ternary_weight;
+use common_i64::sample_sparse_ternary_values_to as sample_sparse_ternary;
+use common_i64::sample_uniform_binary_values_to as sample_uniform_binary;
+use common_i64::sample_uniform_ternary_values_to as sample_uniform_ternary;
 use distr::answer::Answer;
-use fixed_weights_i64::fixed_composition::sample_fixed_composition_ternary_values_to as sample_composition;
-use fixed_weights_i64::fixed_weight::sample_fixed_hamming_weight_binary_values_to as sample_binary_weight;
-use fixed_weights_i64::fixed_weight::sample_fixed_hamming_weight_ternary_values_to as sample_ternary_weight;
+use distr::answer::refused;
+use distr::refusal::NEVER_MADE;
 use output_i64::Encoding;
 use output_i64::Out;
-use packed_i64::binary::sample_uniform_binary_values_to as sample_uniform_binary;
-use packed_i64::ternary::sample_sparse_ternary_values_to as sample_sparse_ternary;
-use packed_i64::ternary::sample_uniform_ternary_values_to as sample_uniform_ternary;
 use secret_key_method::SecretKeyMethod;
 use signed_discrete_gaussian_i64::sample_gaussian_to;
-use ternary_i64::draw::sample_to as sample_ternary;
 ghost use mathlib.Core.Path.{_≡_};
 ghost use Rattle.distr.specs.Draw.{outcome};
 ghost use Rattle.output_i64.specs.Out.{held};
@@ -41,7 +43,7 @@ pub fn sample_to_with(
         SecretKeyMethod::Binary(limit) => fill_binary(output, encoding, limit, words, place),
         SecretKeyMethod::SparseTernary => sample_sparse_ternary(output, encoding, words, place),
         SecretKeyMethod::UniformTernary => sample_uniform_ternary(output, encoding, words, place),
-        SecretKeyMethod::Ternary(ends) => sample_ternary(output, encoding, ends, words, place),
+        SecretKeyMethod::Ternary(ends) => fill_ternary(output, encoding, ends, words, place),
         SecretKeyMethod::FixedHammingWeightBinary { hamming_weight } => {
             sample_binary_weight(output, encoding, hamming_weight, words, place)
         }
@@ -69,6 +71,6 @@ pub fn sample_to_with(
                 place,
             )
         }
-        SecretKeyMethod::Empty => Answer { number: 21, place },
+        SecretKeyMethod::Empty => refused(NEVER_MADE, place),
     }
 }

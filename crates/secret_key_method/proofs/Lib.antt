@@ -1,4 +1,4 @@
--- Laws on the method that is prepared for a distribution, on its fields, and on the floats of one that code holds.
+-- Laws on the method that is prepared for a distribution, on its key, and on the floats of one that code holds.
 pub mod Preparing
 pub mod SameMethod
-pub mod Held
+pub mod MethodFloats

@@ -13,25 +13,25 @@ use Rattle.ternary.specs.Sampler.{samplerOf}
 use Rattle.gaussian_core.specs.Made.{madeParameters}
 use Rattle.distr.proofs.Reading.{or-false}
 use Rattle.distr.proofs.Drawing.{not-refused}
-use Rattle.gaussian_core.proofs.Judged.{same-where-zero}
 use Rattle.gaussian_core.proofs.Made.{made-number as made-gaussian-number, made-parameters}
+use Rattle.draw_laws.proofs.Making.{judged-same}
+use Rattle.secret_key_method.specs.declared.PreparedSecretKeyMethod.{PreparedSecretKeyMethod}
 use Rattle.secret_key_method.specs.declared.SecretKeyMethod.{SecretKeyMethod}
 use Rattle.secret_key_method.specs.declared.SecretKeyMethod.the-variants.{Binary, Ternary, Gaussian, Empty}
 use Rattle.secret_key_method.specs.Method.{prepared, judgedMethod, preparing}
 
--- Two methods count as one where they are the same for the number 0.
-pub judged-same : (n k : ℕ) (m other : SecretKeyMethod) → n ≡ k → (k ≡ 0 → m ≡ other) → judgedMethod n m ≡ judgedMethod k other
-judged-same n k m other e h = rw (e, same-where-zero k m other Empty h)
+abbrev hold : ℕ → SecretKeyMethod → PreparedSecretKeyMethod
+hold number method = record { number = number; method = method }
 
 pub prepares-binary : (p : Float) → judgedMethod (madeThreshold p .number) (Binary (madeThreshold p .threshold)) ≡ preparing (Distr.Binary p)
 unfolding secretNumber prepared
 prepares-binary p =
-    judged-same (madeThreshold p .number) (refuse (badProbability p) 1) (Binary (madeThreshold p .threshold)) (prepared (Distr.Binary p)) (made-number p)
+    judged-same hold Empty (madeThreshold p .number) (refuse (badProbability p) 1) (Binary (madeThreshold p .threshold)) (prepared (Distr.Binary p)) (made-number p)
     (λ e. ap Binary (made-threshold p (not-refused (badProbability p) 0 e)))
 
 pub prepares-gaussian : (d : Float) → judgedMethod (madeParameters d .number) (Gaussian (madeParameters d .parameters)) ≡ preparing (Distr.Gaussian d)
 unfolding secretNumber prepared
-prepares-gaussian d = judged-same _ _ _ _ (made-gaussian-number d) (λ e. ap Gaussian (made-parameters d e))
+prepares-gaussian d = judged-same hold Empty _ _ _ _ (made-gaussian-number d) (λ e. ap Gaussian (made-parameters d e))
 
 -- Of two probabilities that are not refused, neither is.
 pub both-good : (minus plus : Float) → badProbabilities minus plus ≡ false → (badProbability minus ≡ false) × (badProbability plus ≡ false)
@@ -47,6 +47,6 @@ pub prepares-ternary : (minus plus : Float)
     ≡ preparing (Distr.Ternary minus plus)
 unfolding secretNumber prepared
 prepares-ternary minus plus =
-    judged-same _ _ _ _ refl (λ e.
+    judged-same hold Empty _ _ _ _ refl (λ e.
     let good = both-good minus plus (not-refused _ 0 e) in
     ap Ternary (rw (value-of minus (good .0), value-of plus (good .1))))

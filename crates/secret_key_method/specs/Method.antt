@@ -1,4 +1,4 @@
--- The method that is prepared for a distribution, its largest magnitude, and its fields as numbers, by which two methods are compared.
+-- The method that is prepared for a distribution, its largest magnitude, and its key, by which two methods are compared.
 use Prim.Native.Nat.{ℕ}
 use mathlib.Core.Bool.{false, cond}
 use lib.Dec.{eqb}
@@ -6,15 +6,16 @@ use Rattle.distr.specs.declared.secret_key_distr.SecretKeyDistr.{SecretKeyDistr
 use Rattle.distr.specs.declared.secret_key_distr.SecretKeyDistr.the-variants as Distr
 use Rattle.distr.specs.declared.secret_key_distr.BlockOccupancy.the-variants.{AtMostOne, ExactlyOne}
 use Rattle.distr.specs.Thresholds.{threshold}
-use Rattle.distr.specs.Gaussian.{literal, support}
+use Rattle.distr.specs.Constants.{literal}
+use Rattle.distr.specs.Gaussian.{support}
 use Rattle.distr.specs.Making.{secretNumber}
 use Rattle.probability.specs.Made.{flagged}
 use Rattle.ternary.specs.declared.ternary.TernaryValue.the-variants.{MinusOne, Zero, One}
 use Rattle.ternary.specs.declared.ternary.TernaryEnds.{TernaryEnds}
 use Rattle.ternary.specs.declared.ternary.TernaryEnds.the-variants.{Constant, Nonzero, General}
 use Rattle.ternary.specs.Sampler.{samplerOf}
-use Rattle.method_fields.specs.declared.MethodFields.{MethodFields}
-use Rattle.method_fields.specs.Fields.{fieldsOf, plainFields}
+use Rattle.methods.specs.declared.MethodKey.{MethodKey}
+use Rattle.methods.specs.Keys.{keyOf, plainKey}
 use Rattle.secret_key_method.specs.declared.PreparedSecretKeyMethod.{PreparedSecretKeyMethod}
 use Rattle.secret_key_method.specs.declared.SecretKeyMethod.{SecretKeyMethod}
 use Rattle.secret_key_method.specs.declared.SecretKeyMethod.the-variants.{UniformBinary, Binary, SparseTernary, UniformTernary, Ternary, Empty}
@@ -55,24 +56,24 @@ magnitudeOf (FixedCompositionTernary minus ones) = 1
 magnitudeOf (Gaussian parameters) = parameters .«maximum_magnitude»
 magnitudeOf Empty = 1
 
--- A method's fields as numbers: its kind, and what it holds (0 where it holds nothing).
-abbrev pub ternaryFields : TernaryEnds → MethodFields
-ternaryFields (Constant MinusOne) = plainFields 5 0 0
-ternaryFields (Constant Zero) = plainFields 6 0 0
-ternaryFields (Constant One) = plainFields 7 0 0
-ternaryFields (Nonzero N) = plainFields 8 N 0
-ternaryFields (General N E) = plainFields 9 N E
+-- The key of a method: its kind, and what it holds (0 where it holds nothing).
+abbrev pub ternaryKey : TernaryEnds → MethodKey
+ternaryKey (Constant MinusOne) = plainKey 5 0 0
+ternaryKey (Constant Zero) = plainKey 6 0 0
+ternaryKey (Constant One) = plainKey 7 0 0
+ternaryKey (Nonzero N) = plainKey 8 N 0
+ternaryKey (General N E) = plainKey 9 N E
 
-abbrev pub methodFields : SecretKeyMethod → MethodFields
-methodFields UniformBinary = plainFields 1 0 0
-methodFields (Binary t) = fieldsOf 2 (t .full) (t .below) 0 (literal 0 1)
-methodFields SparseTernary = plainFields 3 0 0
-methodFields UniformTernary = plainFields 4 0 0
-methodFields (Ternary s) = ternaryFields s
-methodFields (FixedHammingWeightBinary h) = plainFields 10 h 0
-methodFields (BlockBinary size AtMostOne) = plainFields 11 size 0
-methodFields (BlockBinary size ExactlyOne) = plainFields 12 size 0
-methodFields (FixedHammingWeightTernary h) = plainFields 13 h 0
-methodFields (FixedCompositionTernary minus ones) = plainFields 14 minus ones
-methodFields (Gaussian parameters) = fieldsOf 15 false (parameters .«maximum_magnitude») 0 (parameters .«standard_deviation»)
-methodFields Empty = plainFields 0 0 0
+abbrev pub methodKey : SecretKeyMethod → MethodKey
+methodKey UniformBinary = plainKey 1 0 0
+methodKey (Binary t) = keyOf 2 (t .full) (t .below) 0 (literal 0 1)
+methodKey SparseTernary = plainKey 3 0 0
+methodKey UniformTernary = plainKey 4 0 0
+methodKey (Ternary s) = ternaryKey s
+methodKey (FixedHammingWeightBinary h) = plainKey 10 h 0
+methodKey (BlockBinary size AtMostOne) = plainKey 11 size 0
+methodKey (BlockBinary size ExactlyOne) = plainKey 12 size 0
+methodKey (FixedHammingWeightTernary h) = plainKey 13 h 0
+methodKey (FixedCompositionTernary minus ones) = plainKey 14 minus ones
+methodKey (Gaussian parameters) = keyOf 15 false (parameters .«maximum_magnitude») 0 (parameters .«standard_deviation»)
+methodKey Empty = plainKey 0 0 0

@@ -1,7 +1,7 @@
-// Inner crate of primus_distr: the prepared state of a secret-key sampler, that is the method of a distribution, its fields and its
+// Inner crate of primus_distr: the prepared state of a secret-key sampler, that is the method of a distribution, its key and its
 // largest magnitude.
 pub mod family;
-pub mod fields;
+pub mod key;
 pub mod prepare;
 
 use distr::gaussian_parameters::GaussianParameters;

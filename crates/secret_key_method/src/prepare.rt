@@ -1,12 +1,14 @@
 // Preparing the method of a distribution: its parameters are judged once, before any draw.
 use crate::PreparedSecretKeyMethod;
 use crate::SecretKeyMethod;
+use distr::refusal::INVALID_BLOCK_SIZE;
 use distr::secret_key_distr::BlockOccupancy;
 use distr::secret_key_distr::SecretKeyDistr;
 use ternary::ternary::from_thresholds;
 ghost use mathlib.Core.Path.{_≡_};
 ghost use Rattle.distr.specs.declared.secret_key_distr.SecretKeyDistr.the-variants as Distr;
 ghost use Rattle.distr.specs.Making.{badBlock, refuse};
+ghost use Rattle.distr.specs.Constants.{invalidBlockSize};
 ghost use Rattle.secret_key_method.specs.Method.{judgedMethod, preparing};
 
 // A number and, where it is 0, the method.
@@ -50,15 +52,15 @@ fn prepare_ternary(negative_one_probability: f64, one_probability: f64) -> Prepa
 
 // 5 for no blocks at all, and where the empty block makes one category more than a u64 can number; else 0.
 fn block_size_number(block_size: usize, occupancy: BlockOccupancy) -> u32
-    ensures { λ r. ⌜ r ≡ refuse (badBlock «block_size» occupancy) 5 ⌝ }
+    ensures { λ r. ⌜ r ≡ refuse (badBlock «block_size» occupancy) invalidBlockSize ⌝ }
 {
     if block_size == 0 {
-        return 5;
+        return INVALID_BLOCK_SIZE;
     }
     match occupancy {
         BlockOccupancy::AtMostOne => {
             if block_size == 0xffff_ffff_ffff_ffff {
-                5
+                INVALID_BLOCK_SIZE
             } else {
                 0
             }

@@ -1,29 +1,25 @@
--- The answers of a sampler's draws: 21 for one that making never gives, the other refusals in their order, and what the method of a made one draws.
-use mathlib.Core.Path.{_≡_, refl, sym, ap, _∙_, subst}
+-- What a test told, said of the sampler; and residues that nothing is asked of.
+use mathlib.Core.Path.{_≡_, sym, _∙_, subst}
 use mathlib.Core.Bool.{Bool, true, false, not}
-use mathlib.Core.List.{List, map}
-use Prim.Native.Nat.{ℕ, _-_, _<_, _≤_}
+use mathlib.Core.List.{List, [], _∷_, map}
+use Prim.Native.Nat.{ℕ, _<_}
 use native.Mathlib.Omega.{arith}
-use borrow.Author.Tests.{not-true, not-false, leb-true, leb-false}
+use borrow.Author.Tests.{not-true, not-false, leb-false}
 use lib.Dec.{T, leb}
 use lib.ListN.{length}
-use lib.IntN.{ℤ}
-use Rattle.distr.specs.Distribution.{Tables, secret}
-use Rattle.distr.specs.Encoding.{encodeWith}
-use Rattle.distr.specs.Numbers.{lengthNumber, modulusNumber}
-use Rattle.distr.specs.Draw.{Outcome, signedDraw, encodedDraw}
-use Rattle.draw_laws.proofs.Signed.{signed-unmade, own-signed}
-use Rattle.draw_laws.proofs.Encoded.{of-secret, encoded-unmade, encoded-length, encoded-modulus, own-encoded}
-use Rattle.secret_key_sampler.specs.declared.SecretKeySampler.{SecretKeySampler}
+use Rattle.distr.specs.declared.secret_key_distr.SecretKeyDistr.{SecretKeyDistr}
+use Rattle.distr.specs.Distribution.{secret, Tables}
+use Rattle.distr.specs.Encoding.{encode}
+use Rattle.distr.specs.Numbers.{firstOf, lengthNumber, modulusNumber}
+use Rattle.distr.specs.Draw.{encodedDraw}
+use Rattle.distr.proofs.Drawing.{first-passed, not-refused}
+use Rattle.draw_laws.proofs.Sampled.{sampled, residues-sampled}
 use Rattle.secret_key_method.specs.declared.SecretKeyMethod.{SecretKeyMethod}
-use Rattle.secret_key_method.specs.Method.{magnitudeOf}
-use Rattle.secret_key_sampler.specs.Sampler.{isMade}
-use Rattle.secret_key_draws.specs.Drawing.{methodDraw}
-use Rattle.distr.proofs.Drawing.{not-refused}
-use Rattle.secret_key_sampler.proofs.Made.{fitting, made-method, made-magnitude}
-use Rattle.secret_key_draws.proofs.Drawing.{prepared-draw}
+use Rattle.secret_key_method.specs.Method.{prepared, magnitudeOf}
+use Rattle.secret_key_method.proofs.SameMethod.{prepared-magnitude}
+use Rattle.secret_key_sampler.specs.declared.SecretKeySampler.{SecretKeySampler}
+use Rattle.secret_key_sampler.specs.Sampler.{isMade, residueNumbers}
 
--- What a test told, said of the sampler.
 pub is-unmade : (s : SecretKeySampler) (told : Bool) → told ≡ isMade s → not told ≡ true → isMade s ≡ false
 is-unmade s told e h = sym e ∙ not-true told h
 
@@ -33,66 +29,19 @@ is-made s told e h = sym e ∙ not-false told h
 pub made-so : (s : SecretKeySampler) → isMade s ≡ true → T (isMade s)
 made-so s e = subst T (sym e) tt
 
--- the modulus's number, by the largest magnitude that the method keeps
-pub modulus-low : (most q k : ℕ) → k ≡ modulusNumber most q → (k ≡ 0 → ⊥) → q ≤ most
-modulus-low most q k e h = go (leb q most) refl
-  where
-    go : (b : Bool) → leb q most ≡ b → q ≤ most
-    go true t = leb-true q most t
-    go false t = absurd (h (e ∙ rw t))
+-- their length is good, and their modulus is above 0
+module _ (d : SecretKeyDistr) (m : SecretKeyMethod) (n q : ℕ) (z : firstOf (residueNumbers d m n q) ≡ 0) where
+  pub residues-fit : lengthNumber (secret d) n ≡ 0
+  residues-fit = first-passed (lengthNumber (secret d) n) (modulusNumber (magnitudeOf m) q ∷ []) z .0
 
-pub modulus-above : (most q k : ℕ) → k ≡ modulusNumber most q → k ≡ 0 → most < q
-modulus-above most q k e h = leb-false q most (not-refused (leb q most) 8 (sym e ∙ h))
+  pub residues-above : 0 < q
+  residues-above =
+      let last = first-passed (modulusNumber (magnitudeOf m) q) [] (first-passed (lengthNumber (secret d) n) (modulusNumber (magnitudeOf m) q ∷ []) z .1) in
+      omega (arith, leb-false q (magnitudeOf m) (not-refused (leb q (magnitudeOf m)) 8 (last .0)))
 
-pub modulus-some : (most q k : ℕ) → k ≡ modulusNumber most q → k ≡ 0 → 1 ≤ q
-modulus-some most q k e h = omega (arith, modulus-above most q k e h)
-
--- the signed draw
-module _ (s : SecretKeySampler) (tables : Tables) (words : List ℕ) (place : ℕ) (out : List ℤ) (told : Bool) (e : told ≡ isMade s) where
-  pub signed-refused : not told ≡ true
-      → record { number = 21; place = place; output = out } ≡ signedDraw (isMade s) (secret (s .distr)) tables words place out
-  signed-refused h = rw (is-unmade s told e h) (sym (signed-unmade tables words place out (secret (s .distr))))
-
-  pub signed-drawn : T (fitting s) → not told ≡ false → (o : Outcome ℤ)
-      → o ≡ methodDraw (λ cs. cs) (s .method) tables words place out
-      → o ≡ signedDraw (isMade s) (secret (s .distr)) tables words place out
-  signed-drawn f h o d =
-      let made = is-made s told e h in
-      d ∙ ap (λ (m : SecretKeyMethod). methodDraw (λ cs. cs) m tables words place out) (made-method s f (made-so s made))
-      ∙ prepared-draw (λ cs. cs) tables words place out (s .distr) ∙ own-signed tables words place out (secret (s .distr)) _ refl
-      ∙ ap (λ (b : Bool). signedDraw b (secret (s .distr)) tables words place out) (sym made)
-
--- the draw of residues
-module _ (s : SecretKeySampler) (tables : Tables) (q : ℕ) (words : List ℕ) (place : ℕ) (out : List ℕ) (told : Bool) (e : told ≡ isMade s) where
-  pub encoded-refused : not told ≡ true
-      → record { number = 21; place = place; output = out } ≡ encodedDraw (isMade s) (secret (s .distr)) tables q words place out
-  encoded-refused h = rw (is-unmade s told e h) (sym (encoded-unmade tables q words place out (of-secret (s .distr))))
-
-  -- the answers of a made sampler
-  pub encoded-made : not told ≡ false → (o : Outcome ℕ) → encodedDraw true (secret (s .distr)) tables q words place out ≡ o
-      → o ≡ encodedDraw (isMade s) (secret (s .distr)) tables q words place out
-  encoded-made h o d = sym d ∙ ap (λ (b : Bool). encodedDraw b (secret (s .distr)) tables q words place out) (sym (is-made s told e h))
-
-  pub encoded-bad-length : not told ≡ false → place ≤ length words → length out ≤ 65536
-      → (k : ℕ) → k ≡ lengthNumber (secret (s .distr)) (length out) → (k ≡ 0 → ⊥)
-      → record { number = k; place = place; output = out } ≡ encodedDraw (isMade s) (secret (s .distr)) tables q words place out
-  encoded-bad-length h p l k n z =
-      encoded-made h _ (rw n (encoded-length tables q words place out (of-secret (s .distr)) p l (omega (arith, n, z))))
-
-  pub encoded-bad-modulus : T (fitting s) → not told ≡ false → place ≤ length words → length out ≤ 65536
-      → lengthNumber (secret (s .distr)) (length out) ≡ 0 → q ≤ magnitudeOf (s .method)
-      → record { number = 9; place = place; output = out } ≡ encodedDraw (isMade s) (secret (s .distr)) tables q words place out
-  encoded-bad-modulus f h p l z m =
-      encoded-made h _ (encoded-modulus tables q words place out (of-secret (s .distr)) p l z
-      (subst (λ (k : ℕ). q ≤ k) (made-magnitude s f (made-so s (is-made s told e h))) m))
-
-  pub encoded-drawn : T (fitting s) → not told ≡ false → magnitudeOf (s .method) < q → (o : Outcome ℕ)
-      → o ≡ methodDraw (map (encodeWith (q - 1))) (s .method) tables words place out
-      → o ≡ encodedDraw (isMade s) (secret (s .distr)) tables q words place out
-  encoded-drawn f h m o d =
-      let made = made-so s (is-made s told e h) in
-      encoded-made h o (sym (
-      d ∙ ap (λ (m : SecretKeyMethod). methodDraw (map (encodeWith (q - 1))) m tables words place out) (made-method s f made)
-      ∙ prepared-draw (map (encodeWith (q - 1))) tables words place out (s .distr)
-      ∙ own-encoded tables q words place out (of-secret (s .distr)) (subst (λ (k : ℕ). k < q) (made-magnitude s f made) m) _ refl
-      ))
+-- the encoded draw of a made sampler asks these numbers
+pub residues-asked : (tables : Tables) (q : ℕ) (words : List ℕ) (place : ℕ) (out : List ℕ) (d : SecretKeyDistr)
+    → sampled (map (encode q)) (residueNumbers d (prepared d) (length out) q) (secret d) tables words place out
+    ≡ encodedDraw true (secret d) tables q words place out
+unfolding encodedDraw
+residues-asked tables q words place out d = rw (prepared-magnitude d) (residues-sampled (secret d) tables q words place out)

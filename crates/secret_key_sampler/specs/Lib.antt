@@ -1,2 +1,3 @@
 -- Making a secret-key sampler, and which samplers making gives.
 pub mod Sampler
+pub mod Crt

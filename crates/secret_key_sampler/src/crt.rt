@@ -1,18 +1,44 @@
 // The CRT draw by a prepared sampler: a row of residues for each of several moduli.
 use crate::SecretKeySampler;
+use crt_draws::CrtMethod;
 use distr::answer::Answer;
-use distr::error_distribution::ErrorDistribution;
-use error_sampler::ErrorSampler;
-use secret_key_method::fields::method_fields;
+use distr::answer::refused;
+use distr::refusal::NEVER_MADE;
+use secret_key_method::SecretKeyMethod;
 ghost use mathlib.Core.Path.{_≡_};
 ghost use Rattle.distr.specs.Distribution.{secret};
 ghost use Rattle.distr.specs.Draw.{outcome, crtDraw};
 ghost use Rattle.signed_discrete_gaussian.specs.Lent.{lent};
 ghost use Rattle.secret_key_sampler.specs.Sampler.{isMade};
+ghost use Rattle.secret_key_sampler.specs.Crt.{crtMethod};
+
+// What CRT draws take of a method: of the keys, the Gaussian alone is served.
+fn crt_method(method: SecretKeyMethod) -> CrtMethod
+    ensures { λ r. ⌜ r ≡ crtMethod method ⌝ }
+{
+    match method {
+        SecretKeyMethod::UniformBinary => CrtMethod::Neither,
+        SecretKeyMethod::Binary(_) => CrtMethod::Neither,
+        SecretKeyMethod::SparseTernary => CrtMethod::Neither,
+        SecretKeyMethod::UniformTernary => CrtMethod::Neither,
+        SecretKeyMethod::Ternary(_) => CrtMethod::Neither,
+        SecretKeyMethod::FixedHammingWeightBinary { hamming_weight: _ } => CrtMethod::Neither,
+        SecretKeyMethod::BlockBinary {
+            block_size: _,
+            occupancy: _,
+        } => CrtMethod::Neither,
+        SecretKeyMethod::FixedHammingWeightTernary { hamming_weight: _ } => CrtMethod::Neither,
+        SecretKeyMethod::FixedCompositionTernary {
+            negative_one_weight: _,
+            one_weight: _,
+        } => CrtMethod::Neither,
+        SecretKeyMethod::Gaussian(parameters) => CrtMethod::Gaussian(parameters),
+        SecretKeyMethod::Empty => CrtMethod::Neither,
+    }
+}
 
 impl SecretKeySampler {
-    // Draws a Gaussian key and writes its residues for every modulus, one row after the other, by the error sampler of the
-    // same deviation. Another method has the deviation 0.0 in its fields, which making refuses: the empty sampler answers 21.
+    // Draws a Gaussian key and writes its residues for every modulus, one row after the other. Another key gives 21.
     pub fn sample_crt_to(
         self,
         output: &mut [u64],
@@ -30,14 +56,13 @@ impl SecretKeySampler {
             «coefficient_count» (now (moduli .entry)) (now (words .entry)) place (now (output .entry)) ⌝ }
     {
         if !crate::is_made(self) {
-            return Answer { number: 21, place };
+            return refused(NEVER_MADE, place);
         }
-        let method = self.method;
-        let standard_deviation = method_fields(method).deviation;
-        let made = ErrorSampler::try_new(ErrorDistribution::Gaussian { standard_deviation });
-        let sampler = made.sampler;
-        sampler.sample_crt_to(
+        let prepared = self.method;
+        let method = crt_method(prepared);
+        crt_draws::sample_crt_to(
             output,
+            method,
             coefficient_count,
             moduli,
             bounds,

@@ -3,14 +3,15 @@ mod crt;
 mod encoded;
 mod signed;
 
+use distr::refusal::NEVER_MADE;
 use distr::secret_key_distr::SecretKeyDistr;
-use method_fields::same_fields;
+use methods::same_key;
 use numbers::block_number;
 use numbers::weight_number;
 use secret_key_method::SecretKeyMethod;
 pub use secret_key_method::family::is_binary;
 pub use secret_key_method::family::is_ternary;
-use secret_key_method::fields::method_fields;
+use secret_key_method::key::method_key;
 use secret_key_method::prepare;
 ghost use mathlib.Core.Path.{_≡_};
 ghost use mathlib.Core.Bool.{not};
@@ -62,7 +63,7 @@ impl SecretKeySampler {
         ensures { λ r. ⌜ r ≡ firstOf (refuse (not (isMade self)) 21 ∷ lengthNumber (secret (self .distr)) length ∷ []) ⌝ }
     {
         if !is_made(self) {
-            return 21;
+            return NEVER_MADE;
         }
         let distr = self.distr;
         length_number(distr, length)
@@ -93,7 +94,7 @@ pub fn is_made(sampler: SecretKeySampler) -> bool
     let method = sampler.method;
     let prepared = prepare::prepare(distr);
     let again = prepared.method;
-    let same = same_fields(method_fields(method), method_fields(again));
+    let same = same_key(method_key(method), method_key(again));
     (prepared.number == 0) & same
 }
 

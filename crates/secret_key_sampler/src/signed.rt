@@ -1,6 +1,8 @@
 // The signed draw of a prepared sampler.
 use crate::SecretKeySampler;
 use distr::answer::Answer;
+use distr::answer::refused;
+use distr::refusal::NEVER_MADE;
 use output_i64::Encoding;
 use secret_key_draws_i64::sample_to_with;
 ghost use Rattle.distr.specs.Distribution.{secret};
@@ -26,7 +28,7 @@ impl SecretKeySampler {
             (now (words .entry)) place (now (output .entry)) (outcome r (now (output .exit))) ⌝ }
     {
         if !crate::is_made(self) {
-            return Answer { number: 21, place };
+            return refused(NEVER_MADE, place);
         }
         let method = self.method;
         sample_to_with(

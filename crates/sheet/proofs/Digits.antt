@@ -1,5 +1,5 @@
 -- The decimal digits of a number: by its last digit and the number before it, and how many they are.
-use mathlib.Core.Path.{_≡_, refl}
+use mathlib.Core.Path.{_≡_, refl, ap, _∙_}
 use mathlib.Core.List.{[], _∷_, _++_}
 use Prim.Native.Nat.{ℕ, zero, suc, _+_, _/_, _^_, _<_, _≤_}
 use native.Mathlib.Nat.{div-eq-of-lt, mod-eq-of-lt, div-lt-iff-lt-mul, pow-suc}
@@ -52,3 +52,10 @@ unfolding decimal
 decimal-few k n h =
     let fewer = digits-few k n (n / 10) (div-lt-iff-lt-mul (omega arith) .1 (rw pow-suc at h)) in
     omega (arith, fewer, length-append (digitsOf n (n / 10)) (lastDigit n ∷ []))
+
+-- the lengths of the two forms
+pub small-length : (n : ℕ) → n < 10 → length (decimal n) ≡ 1
+small-length n h = ap length (decimal-small n h)
+
+pub more-length : (n : ℕ) → 10 ≤ n → length (decimal n) ≡ length (decimal (n / 10)) + 1
+more-length n h = ap length (decimal-more n h) ∙ length-append (decimal (n / 10)) (lastDigit n ∷ [])

@@ -2,8 +2,7 @@
 pub mod Words
 pub mod Digits
 pub mod Placing
-pub mod Signs
 pub mod Lines
-pub mod Lengths
+pub mod Patterns
 pub mod WellFormed
 pub mod Answers

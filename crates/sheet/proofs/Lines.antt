@@ -1,72 +1,84 @@
--- A line written number by number: what is still to be written, and the room for it.
-use mathlib.Core.Path.{_≡_, refl, ap, _∙_}
-use mathlib.Core.List.{List, [], _∷_, _++_, map}
-use Prim.Native.Nat.{ℕ, suc, _+_, _*_, _-_, _^_, _<_, _≤_}
+-- A line: what is left of it from a number on, and how long it can be.
+use mathlib.Core.Path.{_≡_, refl, ap}
+use mathlib.Core.Bool.{Bool, true, false, cond}
+use mathlib.Core.List.{List, [], _∷_, _++_}
+use Prim.Native.Nat.{ℕ, suc, _+_, _*_, _^_, _<_, _≤_, _-_}
 use native.Mathlib.Numerals.{add-one}
 use native.Mathlib.Omega.{arith}
-use lib.ListN.{length, getD, set, drop, length-set, drop-of-length-le, List·getD-map}
+use borrow.Author.Tests.{lt-ltb}
+use lib.Dec.{ltb}
+use lib.ListN.{length, getD, drop, length-append, length-map, drop-of-length-le, List·getD-map}
 use lib.Seq.{drop-cons}
-use lib.IntN.{ℤ, pos}
-use Rattle.sheet.specs.Text.{decimal, signedText, lineRest, line}
-use Rattle.sheet.specs.Written.{Written}
+use lib.IntN.{ℤ, pos, negsuc, natAbs}
+use Rattle.sheet.specs.Text.{decimal, onlyIf, signedText, itemText, lineFrom, line}
+use Rattle.sheet.specs.Patterns.{isMinus, valueOf, valuesOf}
 use Rattle.sheet.proofs.Digits.{decimal-few}
-use Rattle.sheet.proofs.Placing.{written-byte, written-then, written-length}
 
-module _ (values : List ℤ) where
-  -- the line begins with its first number, and what is left of it from i on with a space and the number at i
-  line-first : 0 < length values → line values ≡ signedText (getD values 0 (pos 0)) ++ lineRest (drop 1 values)
-  unfolding line
-  line-first h = ap line (drop-cons values 0 (pos 0) h)
+ltb-zero-suc : (i : ℕ) → ltb 0 (suc i) ≡ true
+ltb-zero-suc i = lt-ltb 0 (suc i) (omega arith)
 
-  pub line-none : length values ≡ 0 → line values ≡ 10 ∷ []
-  unfolding line
-  line-none h = ap line (drop-of-length-le values {i = 0} (omega arith))
+-- what is left from the value at i on
+abbrev pub rest : List ℤ → ℕ → List ℕ
+rest values i = lineFrom (ltb 0 i) (drop i values)
 
-  rest-more : (i : ℕ) → i < length values
-      → lineRest (drop i values) ≡ (32 ∷ []) ++ (signedText (getD values i (pos 0)) ++ lineRest (drop (suc i) values))
-  unfolding lineRest
-  rest-more i h = rw (drop-cons values i (pos 0) h)
+module _ (signed : Bool) (us : List ℕ) (i : ℕ) where
+  pub rest-more : i < length us
+      → rest (valuesOf signed us) i ≡ itemText (ltb 0 i) (valueOf signed (getD us i 0)) ++ rest (valuesOf signed us) (i + 1)
+  unfolding lineFrom
+  rest-more h =
+      rw (add-one i, drop-cons (valuesOf signed us) i (valueOf signed 0) (rw length-map h), ltb-zero-suc i, List·getD-map (valueOf signed) us i 0)
 
-  rest-none : (i : ℕ) → length values ≤ i → lineRest (drop i values) ≡ 10 ∷ []
-  unfolding lineRest
-  rest-none i h = rw (drop-of-length-le values h)
+  pub item-room : (end room : ℕ) → i < length us → end + length (rest (valuesOf signed us) i) ≤ room
+      → end + length (itemText (ltb 0 i) (valueOf signed (getD us i 0))) ≤ room
+  item-room end room h k =
+      omega (arith, ap length (rest-more h), length-append (itemText (ltb 0 i) (valueOf signed (getD us i 0))) (rest (valuesOf signed us) (i + 1)))
 
-  -- the first number, and then the rest
-  pub first-then : {before text after : List ℕ} {at end last : ℕ} → 0 < length values → Written before at (signedText (getD values 0 (pos 0))) text end
-      → Written text end (lineRest (drop 1 values)) after last → Written before at (line values) after last
-  first-then some w z = rw (line-first some) (written-then w z)
+  pub rest-none : length us ≤ i → rest (valuesOf signed us) i ≡ 10 ∷ []
+  unfolding lineFrom
+  rest-none h = rw (drop-of-length-le (valuesOf signed us) {i = i} (rw length-map h))
 
-  module _ (before : List ℕ) (at : ℕ) where
-    -- The numbers from 1 up to i are written, and the place after them is `end`: there is room for what is left, which completes them.
-    pub record Going (i : ℕ) (text : List ℕ) (end : ℕ) : Type 0 where
-      pub sized : length text ≡ length before
-      pub room : end + 21 * (length values - i) + 1 ≤ length text
-      pub completes : (after : List ℕ) (last : ℕ) → Written text end (lineRest (drop i values)) after last
-          → Written before at (lineRest (drop 1 values)) after last
+-- a value's text: a minus sign where its bits are those of a negative number, and its magnitude
+pub value-text : (signed : Bool) (bits : ℕ)
+    → signedText (valueOf signed bits) ≡ onlyIf (isMinus signed bits) 45 ++ decimal (natAbs (valueOf signed bits))
+unfolding signedText valueOf
+value-text signed bits = by-sign (isMinus signed bits)
+  where
+    by-sign : (b : Bool) → let v = cond b (negsuc (2 ^ 64 - 1 - bits)) (pos bits) in signedText v ≡ onlyIf b 45 ++ decimal (natAbs v)
+    by-sign true = refl
+    by-sign false = refl
 
-    pub going-none : at + 21 * (length values - 1) + 1 ≤ length before → Going 1 before at
-    going-none room = record { sized = refl; room = room; completes = λ after last w. w }
+pub item-length : (later signed : Bool) (bits : ℕ)
+    → length (itemText later (valueOf signed bits))
+    ≡ length (onlyIf later 32) + (length (onlyIf (isMinus signed bits) 45) + length (decimal (natAbs (valueOf signed bits))))
+item-length later signed bits = rw value-text (simp length-append)
 
-    module _ {i end : ℕ} {text : List ℕ} (g : Going i text end) where
-      pub number-room : i < length values → length (signedText (getD values i (pos 0))) ≤ 20
-          → end + 1 + length (signedText (getD values i (pos 0))) ≤ length (set text end 32)
-      number-room h few = omega (arith, g .room, length-set text end 32)
+-- a sign and 20 digits at most, and a space before them
+byte-few : (wanted : Bool) (byte : ℕ) → length (onlyIf wanted byte) ≤ 1
+byte-few true byte = omega arith
+byte-few false byte = omega arith
 
-      pub going-more : {after : List ℕ} {last : ℕ} → i < length values → length (signedText (getD values i (pos 0))) ≤ 20
-          → Written (set text end 32) (end + 1) (signedText (getD values i (pos 0))) after last → Going (i + 1) after last
-      going-more {after} {last} h few w = rw (add-one i) (record {
-        sized = written-length w ∙ length-set text end 32 ∙ g .sized;
-        room = omega (arith, g .room, written-length w, length-set text end 32, w .place);
-        completes = λ t k z. g .completes t k (rw (rest-more i h) (written-then (written-byte text end 32 (omega (arith, g .room))) (written-then w z)));
-      })
+size-few : (signed : Bool) (bits : ℕ) → bits < 2 ^ 64 → natAbs (valueOf signed bits) ≤ 2 ^ 64
+unfolding valueOf
+size-few signed bits h = by-sign (isMinus signed bits)
+  where
+    by-sign : (b : Bool) → natAbs (cond b (negsuc (2 ^ 64 - 1 - bits)) (pos bits)) ≤ 2 ^ 64
+    by-sign true = omega arith
+    by-sign false = omega (arith, h)
 
-      pub going-done : length values ≤ i → Written before at (lineRest (drop 1 values)) (set text end 10) (end + 1)
-      going-done h = g .completes (set text end 10) (end + 1) (rw (rest-none i h) (written-byte text end 10 (omega (arith, g .room))))
+line-few : (later signed : Bool) (us : List ℕ) → ((i : ℕ) → getD us i 0 < 2 ^ 64)
+    → length (lineFrom later (valuesOf signed us)) ≤ 22 * length us + 1
+unfolding lineFrom
+line-few later signed [] fits = omega arith
+line-few later signed (u ∷ us) fits =
+    omega (
+      arith,
+      length-append (itemText later (valueOf signed u)) (lineFrom true (valuesOf signed us)),
+      item-length later signed u,
+      byte-few later 32,
+      byte-few (isMinus signed u) 45,
+      decimal-few 19 (natAbs (valueOf signed u)) (omega (arith, size-few signed u (fits 0))),
+      line-few true signed us (λ i. fits (suc i)),
+    )
 
--- the numbers of a line of residues
-pub residue-text : (us : List ℕ) (i : ℕ) → signedText (getD (map pos us) i (pos 0)) ≡ decimal (getD us i 0)
-unfolding signedText
-residue-text us i = ap signedText (List·getD-map pos us i 0)
-
-pub residue-few : (us : List ℕ) (i : ℕ) → getD us i 0 < 2 ^ 64 → length (signedText (getD (map pos us) i (pos 0))) ≤ 20
-residue-few us i h = rw (residue-text us i) (decimal-few 19 (getD us i 0) (omega (arith, h)))
+pub line-length : (signed : Bool) (us : List ℕ) → ((i : ℕ) → getD us i 0 < 2 ^ 64) → length (line (valuesOf signed us)) ≤ 22 * length us + 1
+line-length signed us fits = line-few false signed us fits

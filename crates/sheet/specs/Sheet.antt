@@ -1,13 +1,14 @@
 -- "The sheet": eight little-endian u32, then words; when it is malformed, what it draws, and its answer.
 use Prim.Native.Nat.{ℕ, zero, suc, _+_, _*_, _^_}
-use mathlib.Core.Bool.{Bool, true, not, cond, _&&_, _||_}
+use mathlib.Core.Bool.{Bool, not, cond, _||_}
 use mathlib.Core.List.{List, [], _∷_, map}
-use lib.Dec.{leb, ltb, eqb}
+use lib.Dec.{ltb, eqb}
 use lib.ListN.{length, getD, replicate}
 use lib.Seq.{sets}
 use lib.IntN.{ℤ, pos}
+use Rattle.distr.specs.Constants.{sheetBytes, sheetCoefficients, sheetWords, invalidSheet}
 use Rattle.distr.specs.Draw.{Outcome, signedAtOnce, encodedAtOnce}
-use Rattle.sheet_request.specs.Request.{kindDistr}
+use Rattle.sheet_request.specs.Request.{knownKind, kindDistr}
 use Rattle.sheet.specs.declared.fields.Fields.{Fields}
 use Rattle.sheet.specs.Text.{answerText}
 
@@ -38,50 +39,49 @@ wordsAt s i zero = []
 wordsAt s i (suc count) = u32At s i ∷ wordsAt s (i + 4) count
 
 -- The sheet's words.
-abbrev pub sheetWords : List ℕ → List ℕ
-sheetWords s = wordsAt s (fieldsOf s .offset) (fieldsOf s .count)
+abbrev pub wordsOf : List ℕ → List ℕ
+wordsOf s = wordsAt s (fieldsOf s .offset) (fieldsOf s .count)
 
 -- "Kind or last field wrong, n over 4,096, over 8,192 words, words starting before 32 or ending past the file."
 unfoldable pub badFields : Fields → ℕ → Bool
 badFields f size =
-    not (leb 1 (f .kind) && leb (f .kind) 9)
+    not (knownKind (f .kind))
     || not (eqb (f .last) 0)
-    || ltb 4096 (f .n)
-    || ltb 8192 (f .count)
+    || ltb sheetCoefficients (f .n)
+    || ltb sheetWords (f .count)
     || ltb (f .offset) 32
     || ltb size (f .offset + 4 * f .count)
 
 -- 14: "file under 32 or over 65,536 bytes", or its fields bad.
 unfoldable pub malformed : List ℕ → Bool
-malformed s = ltb (length s) 32 || ltb 65536 (length s) || badFields (fieldsOf s) (length s)
+malformed s = ltb (length s) 32 || ltb sheetBytes (length s) || badFields (fieldsOf s) (length s)
 
 -- Residues as coefficients.
 abbrev pub residues : Outcome ℕ → Outcome ℤ
 residues o = record { number = o .number; place = o .place; output = map pos (o .output) }
 
--- The draw that a sheet asks for: the numbers of making come first, then those of the draw; "modulus or 0 for signed".
+-- The draw that a sheet's fields ask for, on its words: the numbers of making come first, then those of the draw; "modulus or 0 for signed".
 -- "Kind 9 with a modulus draws as CRT of one", as every encoded centered binomial does.
-unfoldable pub drawOf : ℕ → ℕ → ℕ → ℕ → ℕ → List ℕ → Outcome ℤ
-drawOf kind n a b modulus words =
-    let d = kindDistr kind a b in
-    cond (eqb modulus 0) (signedAtOnce d words 0 (replicate n (pos 0))) (residues (encodedAtOnce d modulus words 0 (replicate n 0)))
+unfoldable pub fieldsDraw : Fields → List ℕ → Outcome ℤ
+fieldsDraw f words =
+    let d = kindDistr (f .kind) (f .a) (f .b) in
+    cond (eqb (f .modulus) 0) (signedAtOnce d words 0 (replicate (f .n) (pos 0)))
+    (residues (encodedAtOnce d (f .modulus) words 0 (replicate (f .n) 0)))
 
--- The answer of an outcome: its number, the words used, n, and the coefficients.
-abbrev pub outcomeText : ℕ → Outcome ℤ → List ℕ
-outcomeText n o = answerText (o .number) (o .place) n (o .output)
-
--- The answer of fields that are good, on the sheet's words.
+-- The answer of fields that are good: the draw's number, the words used, n, and the coefficients.
 abbrev pub fieldsText : Fields → List ℕ → List ℕ
-fieldsText f words = outcomeText (f .n) (drawOf (f .kind) (f .n) (f .a) (f .b) (f .modulus) words)
+fieldsText f words =
+    let o = fieldsDraw f words in
+    answerText (o .number) (o .place) (f .n) (o .output)
 
 -- The whole answer of a sheet.
 unfoldable pub sheetText : List ℕ → List ℕ
-sheetText s = cond (malformed s) (answerText 14 0 0 []) (fieldsText (fieldsOf s) (sheetWords s))
+sheetText s = cond (malformed s) (answerText invalidSheet 0 0 []) (fieldsText (fieldsOf s) (wordsOf s))
 
--- A text of 98,304 bytes holds every answer. A shorter one is left as it is and answered with 0; else the answer stands at its start, and the
--- number of its bytes is handed back.
+-- Bytes that hold every answer.
 abbrev pub textLimit : ℕ
 textLimit = 98304
 
+-- A text that is shorter is left as it is and answered with 0; else the answer stands at its start, and the number of its bytes is handed back.
 unfoldable pub answered : List ℕ → List ℕ → ℕ × List ℕ
 answered s text = cond (ltb (length text) textLimit) (0, text) (length (sheetText s), sets text 0 (sheetText s))

@@ -1,6 +1,6 @@
 -- The text of an answer, as bytes: decimal numbers, spaces and newlines.
 use Prim.Native.Nat.{ℕ, zero, suc, _+_, _/_, _%_}
-use mathlib.Core.Bool.{cond}
+use mathlib.Core.Bool.{Bool, true, false, cond}
 use mathlib.Core.List.{List, [], _∷_, _++_}
 use lib.Dec.{eqb}
 use lib.IntN.{ℤ, pos, negsuc}
@@ -19,20 +19,27 @@ digitsOf (suc more) (suc n) = digitsOf more (suc n / 10) ++ (lastDigit (suc n) �
 unfoldable pub decimal : ℕ → List ℕ
 decimal n = digitsOf n (n / 10) ++ (lastDigit n ∷ [])
 
+-- A byte where it is wanted.
+abbrev pub onlyIf : Bool → ℕ → List ℕ
+onlyIf wanted byte = cond wanted (byte ∷ []) []
+
 -- A minus sign stands before a negative number.
 unfoldable pub signedText : ℤ → List ℕ
 signedText (pos n) = decimal n
 signedText (negsuc n) = 45 ∷ decimal (suc n)
 
--- The numbers of a line after its first, a space before each, and the newline.
-unfoldable pub lineRest : List ℤ → List ℕ
-lineRest [] = 10 ∷ []
-lineRest (v ∷ vs) = 32 ∷ (signedText v ++ lineRest vs)
+-- A number of a line: a space before it, unless it is the first.
+abbrev pub itemText : Bool → ℤ → List ℕ
+itemText later v = onlyIf later 32 ++ signedText v
+
+-- The numbers of a line, its first or later ones, and the newline after them.
+unfoldable pub lineFrom : Bool → List ℤ → List ℕ
+lineFrom later [] = 10 ∷ []
+lineFrom later (v ∷ vs) = itemText later v ++ lineFrom true vs
 
 -- A line: numbers with single spaces between them, then a newline; "an empty line" for no numbers.
-unfoldable pub line : List ℤ → List ℕ
-line [] = 10 ∷ []
-line (v ∷ vs) = signedText v ++ lineRest vs
+abbrev pub line : List ℤ → List ℕ
+line vs = lineFrom false vs
 
 -- "Two lines: number, words used, n; then the coefficients (an empty line for n = 0). A refusal prints number, 0, 0 alone."
 unfoldable pub answerText : ℕ → ℕ → ℕ → List ℤ → List ℕ

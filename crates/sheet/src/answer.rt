@@ -1,45 +1,39 @@
 // The two lines of an answer, or the one of a refusal.
 use crate::text;
-ghost use mathlib.Core.List.{[], _∷_, map};
+ghost use mathlib.Core.List.{[], _∷_};
 ghost use Prim.Native.Nat.{_<_, _≤_};
 ghost use lib.ListN.{length};
 ghost use lib.IntN.{pos};
+ghost use Rattle.distr.specs.Constants.{sheetCoefficients};
 ghost use Rattle.sheet.specs.Text.{line, answerText};
+ghost use Rattle.sheet.specs.Patterns.{valuesOf};
+ghost use Rattle.sheet.specs.Sheet.{textLimit};
 ghost use Rattle.sheet.specs.Written.{Written};
 
 // The first line: number, words used, n.
 fn write_head(text: &mut [u8], number: u64, used: u64, n: u64) -> usize
-    requires { ⌜ 64 ≤ length (now text) ⌝ }
+    requires { ⌜ 67 ≤ length (now text) ⌝ }
     ensures { λ r. ⌜ Written (now (text .entry)) 0 (line (pos number ∷ pos used ∷ pos n ∷ [])) (now (text .exit)) r ⌝ }
+    ensures { λ r. ⌜ r ≤ 67 ⌝ }
 {
     let numbers: [u64; 3] = [number, used, n];
-    text::write_line_u64(text, 0, &numbers)
+    text::write_line(text, 0, &numbers, false)
 }
 
 // A refusal: its number, 0, 0.
 pub(crate) fn write_refusal(text: &mut [u8], number: u32) -> usize
-    requires { ⌜ (64 ≤ length (now text)) × (0 < number) ⌝ }
+    requires { ⌜ (67 ≤ length (now text)) × (0 < number) ⌝ }
     ensures { λ r. ⌜ Written (now (text .entry)) 0 (answerText number 0 0 []) (now (text .exit)) r ⌝ }
 {
     write_head(text, number as u64, 0, 0)
 }
 
-// A success: the words used, the number of coefficients, and the coefficients.
-pub(crate) fn write_success_i64(text: &mut [u8], used: usize, values: &[i64]) -> usize
-    requires { ⌜ (98304 ≤ length (now text)) × (length (now values) ≤ 4096) ⌝ }
-    ensures { λ r. ⌜ Written (now (text .entry)) 0 (answerText 0 used (length (now (values .entry))) (now (values .entry))) (now (text .exit)) r ⌝ }
+// A success: the words used, the number of values, and the values.
+pub(crate) fn write_success(text: &mut [u8], used: usize, values: &[u64], signed: bool) -> usize
+    requires { ⌜ (textLimit ≤ length (now text)) × (length (now values) ≤ sheetCoefficients) ⌝ }
+    ensures { λ r. ⌜ Written (now (text .entry)) 0 (answerText 0 used (length (now (values .entry))) (valuesOf signed (now (values .entry)))) (now (text .exit)) r ⌝ }
 {
     let n = values.len();
     let at = write_head(text, 0, used as u64, n as u64);
-    text::write_line_i64(text, at, values)
-}
-
-// The same for residues.
-pub(crate) fn write_success_u64(text: &mut [u8], used: usize, values: &[u64]) -> usize
-    requires { ⌜ (98304 ≤ length (now text)) × (length (now values) ≤ 4096) ⌝ }
-    ensures { λ r. ⌜ Written (now (text .entry)) 0 (answerText 0 used (length (now (values .entry))) (map pos (now (values .entry)))) (now (text .exit)) r ⌝ }
-{
-    let n = values.len();
-    let at = write_head(text, 0, used as u64, n as u64);
-    text::write_line_u64(text, at, values)
+    text::write_line(text, at, values, signed)
 }

@@ -1,7 +1,10 @@
 // What stands in a sheet: eight little-endian u32, then words.
+use distr::limits::MAX_SHEET_BYTES;
+use distr::limits::MAX_SHEET_COEFFICIENTS;
+use distr::limits::MAX_SHEET_WORDS;
 ghost use mathlib.Core.Path.{_≡_};
-ghost use Prim.Native.Nat.{_+_, _*_, _≤_};
-ghost use lib.ListN.{length};
+ghost use Prim.Native.Nat.{_+_, _*_, _<_, _≤_};
+ghost use lib.ListN.{length, getD};
 ghost use Rattle.sheet.specs.Sheet.{u32At, fieldsOf, badFields, malformed, wordsAt};
 
 // The fields of a sheet, in their order.
@@ -16,13 +19,24 @@ pub struct Fields {
     pub last: u32,
 }
 
+// A byte of the sheet, as a number.
+fn byte_at(sheet: &[u8], at: usize) -> u32
+    requires { ⌜ at < length (now sheet) ⌝ }
+    ensures { λ r. ⌜ r ≡ getD (now (sheet .entry)) at 0 ⌝ }
+    ensures { λ r. ⌜ r < 256 ⌝ }
+{
+    sheet[at] as u32
+}
+
 // The little-endian u32 that begins at a byte.
 fn read_u32(sheet: &[u8], at: usize) -> u32
     requires { ⌜ at + 4 ≤ length (now sheet) ⌝ }
     ensures { λ r. ⌜ r ≡ u32At (now (sheet .entry)) at ⌝ }
 {
-    let low = sheet[at] as u32 + sheet[at + 1] as u32 * 0x100;
-    low + sheet[at + 2] as u32 * 0x1_0000 + sheet[at + 3] as u32 * 0x100_0000
+    byte_at(sheet, at)
+        + byte_at(sheet, at + 1) * 0x100
+        + byte_at(sheet, at + 2) * 0x1_0000
+        + byte_at(sheet, at + 3) * 0x100_0000
 }
 
 // The eight fields.
@@ -54,8 +68,8 @@ fn bad_fields(f: Fields, size: usize) -> bool
     let end = offset as usize + 4 * count as usize;
     !((1 <= kind) & (kind <= 9))
         | (last != 0)
-        | (4096 < n)
-        | (8192 < count)
+        | (MAX_SHEET_COEFFICIENTS < n)
+        | (MAX_SHEET_WORDS < count)
         | (offset < 32)
         | (size < end)
 }
@@ -65,10 +79,7 @@ pub(crate) fn is_malformed(sheet: &[u8]) -> bool
     ensures { λ r. ⌜ r ≡ malformed (now (sheet .entry)) ⌝ }
 {
     let size = sheet.len();
-    if size < 32 {
-        return true;
-    }
-    if 65536 < size {
+    if (size < 32) | (MAX_SHEET_BYTES < size) {
         return true;
     }
     bad_fields(read_fields(sheet), size)

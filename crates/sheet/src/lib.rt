@@ -4,16 +4,37 @@ mod fields;
 mod reply;
 mod text;
 
+use distr::refusal::INVALID_SHEET;
 ghost use mathlib.Core.Path.{_≡_};
+ghost use mathlib.Core.Bool.{false};
 ghost use Prim.Native.Nat.{_≤_};
 ghost use lib.ListN.{length, take};
-ghost use Rattle.sheet.specs.Sheet.{answered};
+ghost use Rattle.distr.specs.Constants.{sheetWords};
+ghost use Rattle.sheet.specs.Sheet.{malformed, sheetText, textLimit, answered};
+ghost use Rattle.sheet.specs.Written.{Written};
+
+// Bytes that hold every answer.
+const TEXT_LIMIT: usize = 98304;
 
 // Room for the words of a sheet.
-fn no_words() -> [u32; 8192]
-    ensures { λ r. ⌜ length r ≡ 8192 ⌝ }
+fn words_room() -> [u32; 8192]
+    ensures { λ r. ⌜ length r ≡ sheetWords ⌝ }
 {
     [0; 8192]
+}
+
+// Answers a sheet that is not malformed: the draw that its fields ask for, on its words.
+fn answer_well_formed(sheet: &[u8], text: &mut [u8]) -> usize
+    requires { ⌜ (textLimit ≤ length (now text)) × (malformed (now sheet) ≡ false) ⌝ }
+    ensures { λ r. ⌜ Written (now (text .entry)) 0 (sheetText (now (sheet .entry))) (now (text .exit)) r ⌝ }
+{
+    let f = fields::read_fields(sheet);
+    let count = f.count as usize;
+    let offset = f.offset as usize;
+    let mut room = words_room();
+    let words = &mut room[..count];
+    fields::read_words(sheet, offset, words);
+    reply::reply(f, words, text)
 }
 
 // Answers a sheet. The text's length is handed back; it stands at the start of `text`, which must have 98,304 bytes, or it is left as it was.
@@ -22,22 +43,11 @@ pub fn answer_sheet(sheet: &[u8], text: &mut [u8]) -> usize
     ensures { λ r. ⌜ r ≤ length (now (text .exit)) ⌝ }
     ensures { λ r. ⌜ r ≡ length (take r (now (text .exit))) ⌝ }
 {
-    if text.len() < 98304 {
+    if text.len() < TEXT_LIMIT {
         return 0;
     }
     if fields::is_malformed(sheet) {
-        return answer::write_refusal(text, 14);
+        return answer::write_refusal(text, INVALID_SHEET);
     }
-    let f = fields::read_fields(sheet);
-    let count = f.count as usize;
-    let offset = f.offset as usize;
-    let modulus = f.modulus;
-    let mut room = no_words();
-    let words = &mut room[..count];
-    fields::read_words(sheet, offset, words);
-    if modulus == 0 {
-        reply::reply_signed(f, words, text)
-    } else {
-        reply::reply_encoded(f, words, text)
-    }
+    answer_well_formed(sheet, text)
 }

@@ -1,62 +1,103 @@
 // The answer to fields that are good: a draw into room of its own, and its text.
 use crate::answer;
 use crate::fields::Fields;
+use distr::answer::Answer;
+use gaussian_core::encode::magnitude;
 ghost use mathlib.Core.Path.{_≡_};
-ghost use Prim.Native.Nat.{_<_, _≤_};
+ghost use mathlib.Core.Bool.{true};
+ghost use Prim.Native.Nat.{_≤_};
+ghost use lib.Dec.{eqb};
 ghost use lib.ListN.{length, replicate};
 ghost use lib.IntN.{pos};
-ghost use Rattle.sheet.specs.Sheet.{fieldsText};
+ghost use Rattle.distr.specs.Draw.{outcome};
+ghost use Rattle.distr.specs.Constants.{sheetCoefficients};
+ghost use Rattle.sheet_request.specs.Request.{knownKind, requestSigned};
+ghost use Rattle.sheet.specs.Patterns.{valueOf, valuesOf};
+ghost use Rattle.sheet.specs.Sheet.{textLimit, fieldsDraw, fieldsText};
 ghost use Rattle.sheet.specs.Written.{Written};
 
 // Room for signed coefficients.
-fn no_coefficients() -> [i64; 4096]
-    ensures { λ r. ⌜ r ≡ replicate 4096 (pos 0) ⌝ }
+fn coefficients_room() -> [i64; 4096]
+    ensures { λ r. ⌜ r ≡ replicate sheetCoefficients (pos 0) ⌝ }
 {
     [0; 4096]
 }
 
-// Room for residues.
-fn no_residues() -> [u64; 4096]
-    ensures { λ r. ⌜ r ≡ replicate 4096 0 ⌝ }
+// Room for the values that are written: residues, or coefficients as bits.
+fn values_room() -> [u64; 4096]
+    ensures { λ r. ⌜ r ≡ replicate sheetCoefficients 0 ⌝ }
 {
     [0; 4096]
 }
 
-// The answer where the modulus is 0: signed coefficients.
-pub(crate) fn reply_signed(f: Fields, words: &[u32], text: &mut [u8]) -> usize
-    requires { ⌜ (98304 ≤ length (now text)) × (f .n ≤ 4096) × (1 ≤ f .kind) × (f .kind ≤ 9) × (f .modulus ≡ 0) ⌝ }
-    ensures { λ r. ⌜ Written (now (text .entry)) 0 (fieldsText f (now (words .entry))) (now (text .exit)) r ⌝ }
+// A coefficient as bits: of a negative one, 2^64 less its magnitude.
+fn pattern(c: i64) -> u64
+    ensures { λ r. ⌜ valueOf true r ≡ c ⌝ }
+{
+    let size = magnitude(c);
+    if c < 0 {
+        return 0xffff_ffff_ffff_ffff - size + 1;
+    }
+    size
+}
+
+// The coefficients as bits.
+fn copy_patterns(values: &mut [u64], coefficients: &[i64])
+    requires { ⌜ length (now values) ≡ length (now coefficients) ⌝ }
+    ensures { λ r. ⌜ valuesOf true (now (values .exit)) ≡ now (coefficients .entry) ⌝ }
+{
+    let n = values.len();
+    let mut i = 0;
+    while i < n {
+        values[i] = pattern(coefficients[i]);
+        i += 1;
+    }
+}
+
+// Draws signed coefficients, and hands them out as bits.
+fn draw_signed(values: &mut [u64], f: Fields, words: &[u32]) -> Answer
+    requires { ⌜ (f .n ≤ sheetCoefficients) × (length (now values) ≡ f .n) ⌝ }
+    ensures { λ r. ⌜ outcome r (valuesOf true (now (values .exit))) ≡ requestSigned (f .kind) (f .a) (f .b) (now (words .entry)) (replicate (f .n) (pos 0)) ⌝ }
 {
     let kind = f.kind;
     let n = f.n as usize;
     let a = f.a;
     let b = f.b;
-    let mut room = no_coefficients();
+    let mut room = coefficients_room();
     let output = &mut room[..n];
     let drawn = sheet_request::draw_signed(output, kind, a, b, words);
-    let number = drawn.number;
-    if number != 0 {
-        return answer::write_refusal(text, number);
-    }
-    answer::write_success_i64(text, drawn.place, output)
+    copy_patterns(values, output);
+    drawn
 }
 
-// The answer for a modulus: residues.
-pub(crate) fn reply_encoded(f: Fields, words: &[u32], text: &mut [u8]) -> usize
-    requires { ⌜ (98304 ≤ length (now text)) × (f .n ≤ 4096) × (1 ≤ f .kind) × (f .kind ≤ 9) × (0 < f .modulus) ⌝ }
-    ensures { λ r. ⌜ Written (now (text .entry)) 0 (fieldsText f (now (words .entry))) (now (text .exit)) r ⌝ }
+// Draws what the fields ask for: signed coefficients where the modulus is 0, else residues.
+fn draw(values: &mut [u64], f: Fields, words: &[u32]) -> Answer
+    requires { ⌜ (f .n ≤ sheetCoefficients) × (knownKind (f .kind) ≡ true) × (now values ≡ replicate (f .n) 0) ⌝ }
+    ensures { λ r. ⌜ outcome r (valuesOf (eqb (f .modulus) 0) (now (values .exit))) ≡ fieldsDraw f (now (words .entry)) ⌝ }
 {
+    let modulus = f.modulus;
+    if modulus == 0 {
+        return draw_signed(values, f, words);
+    }
     let kind = f.kind;
-    let n = f.n as usize;
     let a = f.a;
     let b = f.b;
-    let modulus = f.modulus as u64;
-    let mut room = no_residues();
-    let output = &mut room[..n];
-    let drawn = sheet_request::draw_encoded(output, kind, a, b, modulus, words);
+    sheet_request::draw_encoded(values, kind, a, b, modulus as u64, words)
+}
+
+// The answer of the fields on the words.
+pub(crate) fn reply(f: Fields, words: &[u32], text: &mut [u8]) -> usize
+    requires { ⌜ (textLimit ≤ length (now text)) × (f .n ≤ sheetCoefficients) × (knownKind (f .kind) ≡ true) ⌝ }
+    ensures { λ r. ⌜ Written (now (text .entry)) 0 (fieldsText f (now (words .entry))) (now (text .exit)) r ⌝ }
+{
+    let n = f.n as usize;
+    let modulus = f.modulus;
+    let mut room = values_room();
+    let values = &mut room[..n];
+    let drawn = draw(values, f, words);
     let number = drawn.number;
     if number != 0 {
         return answer::write_refusal(text, number);
     }
-    answer::write_success_u64(text, drawn.place, output)
+    answer::write_success(text, drawn.place, values, modulus == 0)
 }

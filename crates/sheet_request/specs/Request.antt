@@ -1,6 +1,6 @@
 -- A request by numbers: the distribution that a kind selects, its making, and its draw into a lent output.
 use Prim.Native.Nat.{ℕ, _-_}
-use mathlib.Core.Bool.{Bool, true, false, cond, _&&_}
+use mathlib.Core.Bool.{Bool, cond, _&&_}
 use mathlib.Core.List.{List, [], _∷_}
 use lib.Dec.{leb}
 use lib.ListN.{getD}
@@ -9,9 +9,11 @@ use Rattle.distr.specs.declared.secret_key_distr.SecretKeyDistr.the-variants.{U
 use Rattle.distr.specs.declared.secret_key_distr.BlockOccupancy.the-variants.{AtMostOne, ExactlyOne}
 use Rattle.distr.specs.declared.error_distribution.ErrorDistribution.the-variants.{CenteredBinomial}
 use Rattle.distr.specs.Distribution.{Distr, secret, error}
+use Rattle.distr.specs.Constants.{invalidSheet}
 use Rattle.distr.specs.Draw.{Outcome, signedAtOnce, encodedAtOnce}
-use Rattle.sheet_request.specs.declared.Request.{Request}
-use Rattle.sheet_request.specs.declared.Request.the-variants.{Secret, Error, Refused}
+use Rattle.any_sampler.specs.declared.AnyDistr.{AnyDistr}
+use Rattle.any_sampler.specs.declared.AnyDistr.the-variants.{Refused}
+use Rattle.any_sampler.specs.Either.{anyOf}
 
 -- The kinds are the numbers 1 to 9; any other number is refused.
 unfoldable pub knownKind : ℕ → Bool
@@ -34,15 +36,13 @@ kindDistr kind a b =
     (kind - 1)
     (secret UniformBinary)
 
--- The sampler that a distribution asks for, or none.
-unfoldable pub requestOf : Bool → Distr → Request
-requestOf true (secret d) = Secret d
-requestOf true (error d) = Error d
-requestOf false d = Refused
+-- What a kind selects: its distribution, or number 14.
+abbrev pub selected : ℕ → ℕ → ℕ → AnyDistr
+selected kind a b = cond (knownKind kind) (anyOf (kindDistr kind a b)) (Refused invalidSheet)
 
 -- Number 14 for another kind; else the draw, from the first word on. The numbers of making come before those of the draw, and a sheet lends no tables.
 abbrev pub known : {A : Type 0} → ℕ → List A → Outcome A → Outcome A
-known kind out drawn = cond (knownKind kind) drawn (record { number = 14; place = 0; output = out })
+known kind out drawn = cond (knownKind kind) drawn (record { number = invalidSheet; place = 0; output = out })
 
 unfoldable pub requestSigned : ℕ → ℕ → ℕ → List ℕ → List ℤ → Outcome ℤ
 requestSigned kind a b words out = known kind out (signedAtOnce (kindDistr kind a b) words 0 out)

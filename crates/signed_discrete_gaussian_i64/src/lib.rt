@@ -3,7 +3,7 @@
 use cdt_i64::sample_cdt_to;
 use distr::answer::Answer;
 use distr::gaussian_parameters::GaussianParameters;
-use gaussian_core::parameters::CDT_MAX_MAGNITUDE;
+use distr::limits::CDT_MAX_MAGNITUDE;
 use output_i64::Encoding;
 use output_i64::Out;
 use ziggurat_i64::sample_ziggurat_to;

@@ -3,7 +3,7 @@
 use cdt_u64::sample_cdt_to;
 use distr::answer::Answer;
 use distr::gaussian_parameters::GaussianParameters;
-use gaussian_core::parameters::CDT_MAX_MAGNITUDE;
+use distr::limits::CDT_MAX_MAGNITUDE;
 use output_u64::Encoding;
 use output_u64::Out;
 use ziggurat_u64::sample_ziggurat_to;

@@ -14,9 +14,9 @@ use Rattle.distr.specs.Words.{got}
 use Rattle.distr.specs.Draw.{outcome, ruleDraw}
 use Rattle.distr.specs.Packed.{minusOne}
 use Rattle.distr.specs.Thresholds.{ternaryValue}
-use Rattle.wide_words.specs.Answering.{wideRule, answerOf}
-use Rattle.wide_words.proofs.Numbers.{answer-enough}
-use Rattle.wide_words.proofs.Answers.{draw-cleared, draw-refused, draw-constant, draw-read}
+use Rattle.numbers.specs.Answering.{wideRule, answerOf}
+use Rattle.numbers.proofs.WideNumbers.{answer-enough}
+use Rattle.numbers.proofs.WideDraws.{draw-cleared, draw-refused, draw-constant, draw-read}
 use Rattle.ternary.specs.Picked.{slotOf, picked, pickedRead}
 use Rattle.ternary.specs.Sampler.{valueOf, samplerRule, planOf}
 use Rattle.ternary.specs.declared.ternary.Plan.{Plan}

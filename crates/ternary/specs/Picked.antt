@@ -5,7 +5,7 @@ use lib.Dec.{leb}
 use mir.Val.{boolByte}
 use lib.ListN.{getD}
 use Rattle.distr.specs.Words.{Read}
-use Rattle.wide_words.specs.Answering.{wideRead}
+use Rattle.numbers.specs.Answering.{wideRead}
 
 -- The number of two ends that are not above a word.
 unfoldable pub slotOf : ℕ → ℕ → ℕ → ℕ

@@ -1,11 +1,14 @@
 -- A prepared ternary sampler: what the thresholds prepare, and the rule that it draws by.
 use Prim.Native.Nat.{ℕ, _^_, max}
 use mathlib.Core.Bool.{cond, true, false}
+use mathlib.Core.List.{List}
 use lib.Dec.{eqb}
+use lib.ListN.{length}
 use lib.IntN.{ℤ, pos}
 use Rattle.distr.specs.Rule.{Rule, constant, wideWords}
 use Rattle.distr.specs.Packed.{minusOne}
 use Rattle.distr.specs.Thresholds.{nonzeroEnd, ternaryValue}
+use Rattle.distr.specs.Draw.{Outcome, ruleDraw}
 use Rattle.ternary.specs.declared.ternary.TernaryValue.{TernaryValue}
 use Rattle.ternary.specs.declared.ternary.TernaryValue.the-variants.{MinusOne, Zero, One}
 use Rattle.ternary.specs.declared.ternary.TernaryEnds.{TernaryEnds}
@@ -22,6 +25,10 @@ unfoldable pub samplerRule : TernaryEnds → ℕ → Rule
 samplerRule (Constant v) n = constant (valueOf v) n
 samplerRule (Nonzero N) n = wideWords n (ternaryValue N (2 ^ 64))
 samplerRule (General N E) n = wideWords n (ternaryValue N E)
+
+-- The whole answer of a draw by a sampler into an output, `write` what it holds for coefficients.
+abbrev pub samplerDraw : {A : Type 0} → (List ℤ → List A) → TernaryEnds → List ℕ → ℕ → List A → Outcome A
+samplerDraw write ends words place out = ruleDraw write 0 (samplerRule ends (length out)) words place out
 
 -- The sampler of two thresholds, -1 and 1: "N = 2^64, E = 0, P = 2^64 are tried in this order".
 unfoldable pub samplerOf : ℕ → ℕ → TernaryEnds

@@ -6,13 +6,14 @@ use crate::ends;
 use crate::fill;
 use crate::minus_one;
 use distr::answer::Answer;
+use distr::refusal::OUT_OF_WORDS;
+use numbers::wide_words;
 use ternary::ternary::TernaryEnds;
 use ternary::ternary::TernaryValue;
 use ternary::ternary::plan_of;
 ghost use mathlib.Core.Path.{_≡_};
-ghost use lib.ListN.{length};
-ghost use Rattle.distr.specs.Draw.{outcome, ruleDraw};
-ghost use Rattle.ternary.specs.Sampler.{valueOf, samplerRule};
+ghost use Rattle.distr.specs.Draw.{outcome};
+ghost use Rattle.ternary.specs.Sampler.{valueOf, samplerDraw};
 ghost use Rattle.output_u64.specs.Out.{heldOne, held};
 
 // A value as the output holds it.
@@ -34,12 +35,11 @@ pub fn sample_to(
     words: &[u32],
     place: usize,
 ) -> Answer
-    ensures { λ r. ⌜ outcome r (now (output .exit)) ≡
-        ruleDraw (held encoding) 0 (samplerRule ends (length (now (output .entry)))) (now (words .entry)) place (now (output .entry)) ⌝ }
+    ensures { λ r. ⌜ outcome r (now (output .exit)) ≡ samplerDraw (held encoding) ends (now (words .entry)) place (now (output .entry)) ⌝ }
 {
     let plan = plan_of(ends);
     let answer = wide_words::answer_of(0, plan.reads, words.len(), place, output.len());
-    if answer.number == 23 {
+    if answer.number == OUT_OF_WORDS {
         clear(output);
         return answer;
     }

@@ -1,6 +1,7 @@
 // The loop over 64-bit words by two ends.
 use crate::Out;
 use ternary::ends::slot;
+use words::wide_word;
 ghost use mathlib.Core.Path.{_≡_};
 ghost use Prim.Native.Nat.{_+_, _*_, _≤_};
 ghost use lib.ListN.{length, drop};
@@ -26,7 +27,8 @@ pub(crate) fn pick(
     let mut i: usize = 0;
     let mut at = place;
     while i < n {
-        output[i] = values[slot(words[at], words[at + 1], first_end, second_end)];
+        let word = wide_word(words[at], words[at + 1]);
+        output[i] = values[slot(word, first_end, second_end)];
         i += 1;
         at += 2;
     }

@@ -2,7 +2,7 @@
 // hands back the value with the place after it.
 use distr::threshold::Threshold;
 ghost use mathlib.Core.Path.{_≡_};
-ghost use Prim.Native.Nat.{_%_, _<_};
+ghost use Prim.Native.Nat.{_+_, _*_, _%_, _^_, _<_};
 ghost use lib.ListN.{length, drop};
 ghost use Rattle.distr.specs.Words.{word, wide, choose, coin};
 ghost use Rattle.words.specs.Reading.{taken, told, toldChance};
@@ -33,6 +33,13 @@ pub fn next_u32(words: &[u32], place: usize) -> Taken
     }
 }
 
+// Two words as one of 64 bits, low half first.
+pub fn wide_word(low: u32, high: u32) -> u64
+    ensures { λ r. ⌜ r ≡ low + high * 2 ^ 32 ⌝ }
+{
+    low as u64 + high as u64 * 0x1_0000_0000
+}
+
 // The next two words as one of 64 bits, low half first.
 pub fn next_u64(words: &[u32], place: usize) -> Taken
     ensures { λ r. ⌜ r ≡ taken (length (now (words .entry))) (wide (drop place (now (words .entry)))) ⌝ }
@@ -44,10 +51,8 @@ pub fn next_u64(words: &[u32], place: usize) -> Taken
     if n - 2 < place {
         return Taken::Short;
     }
-    let low = words[place] as u64;
-    let high = words[place + 1] as u64;
     Taken::Got {
-        value: low + high * 0x1_0000_0000,
+        value: wide_word(words[place], words[place + 1]),
         place: place + 2,
     }
 }

@@ -9,7 +9,8 @@ use lib.Dec.{T, eqb, eqb→eq}
 use lib.ListN.{length, getD}
 use lib.Ieee.{Float, lt, eq}
 use lib.Ieee.Scale.{finite}
-use Rattle.distr.specs.Gaussian.{literal, rising}
+use Rattle.distr.specs.Constants.{literal}
+use Rattle.distr.specs.Gaussian.{rising}
 use Rattle.distr.specs.Layered.{Layers, layerCount, layerTables, heightList, curveList, allFinite, falls, allInUnit}
 use Rattle.ziggurat.specs.Tables.{layerSizes}
 use Rattle.ziggurat.specs.Sampling.{OnLayer}

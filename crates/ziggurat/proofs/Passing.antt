@@ -1,4 +1,4 @@
--- Whether a proposal passes, case by case: inside the layer above, zero, and on the fringe; and how many words each case reads.
+-- Whether a proposal passes, case by case: inside the layer above, zero, and on the edge; and how many words each case reads.
 use mathlib.Core.Path.{_≡_}
 use mathlib.Core.Bool.{Bool, true, false, cond}
 use mathlib.Core.List.{List}
@@ -23,11 +23,11 @@ use Rattle.ziggurat.proofs.Floats.{float-le}
 pub not-full : (z : Threshold) → z .full ≡ false → thresholdValue z ≡ z .below
 not-full z e = rw e
 
--- the words that the judging reads: one on the fringe; for zero two, none by the full threshold
+-- the words that the judging reads: one on the edge; for zero two, none by the full threshold
 module _ (k m : ℕ) where
-  pub fringe-words : (m ≡ 0 → ⊥) → edgeWords k m ≡ 1
+  pub edge-word : (m ≡ 0 → ⊥) → edgeWords k m ≡ 1
   unfolding edgeWords
-  fringe-words some = rw (ne-eqb m 0 some)
+  edge-word some = rw (ne-eqb m 0 some)
 
   pub full-words : m ≡ 0 → k ≡ 2 ^ 64 → edgeWords k m ≡ 0
   unfolding edgeWords
@@ -50,10 +50,10 @@ module _ (deviation : Float) (t : Layers) (i m k : ℕ) (same : k ≡ zeroThresh
   zero-passes e below f h there =
       rw (zero-words k m e (omega arith), e, ← same, f, ne-eqb below (2 ^ 64) (ne-of-lt h), wide-there ws place (omega arith), add-one place, add-two place)
 
-  pub fringe-passes : (m ≡ 0 → ⊥) → place < length ws
+  pub edge-passes : (m ≡ 0 → ⊥) → place < length ws
       → judgeEdge deviation t i m (drop place ws) ≡ got (accepts deviation t i m (getD ws place 0)) (drop (place + edgeWords k m) ws)
   unfolding judgeEdge mapRead
-  fringe-passes some there = rw (fringe-words k m some, ne-eqb m 0 some, word-there ws place there, add-one place)
+  edge-passes some there = rw (edge-word k m some, ne-eqb m 0 some, word-there ws place there, add-one place)
 
   -- and where one of them lacks
   pub edge-lacks : place ≤ length ws → length ws < place + edgeWords k m → judgeEdge deviation t i m (drop place ws) ≡ short

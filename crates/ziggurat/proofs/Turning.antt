@@ -73,7 +73,7 @@ module _ {A : Type 0} (g : Given A) where
   abbrev pub Held : ℕ → ℕ → List A → Type 0
   Held i at out = Filled (g .put) one (g .words) (g .place) (g .output) i at out
 
-  abbrev settles : Outcome A
+  abbrev pub settles : Outcome A
   settles =
       settled (g .write) (length (g .words)) (g .place) (length (g .output)) (layered (g .deviation) (g .layers) (length (g .output)) (drop (g .place) (g .words)))
 

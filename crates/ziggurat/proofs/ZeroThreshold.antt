@@ -1,7 +1,7 @@
 -- Half over a first height above 0.999 is a probability.
-use mathlib.Core.Path.{_≡_}
+use mathlib.Core.Path.{_≡_, ap, _∙_}
 use mathlib.Core.Bool.{true, false, _&&_}
-use Prim.Native.Nat.{_*_, _<_}
+use Prim.Native.Nat.{ℕ, _*_, _<_}
 use native.Mathlib.Nat.{zero-lt-suc}
 use native.Mathlib.Omega.{arith}
 use lib.Dec.{T, ltb→lt}
@@ -11,10 +11,18 @@ use lib.Ieee.Fits.{down-pos}
 use lib.Ieee.Order.{round-mono}
 use lib.Ieee.Positive.{first-pos}
 use lib.Ieee.Scale.{finite}
-use Rattle.distr.specs.Gaussian.{literal}
-use Rattle.distr.specs.Layered.{inUnit}
+use lib.ListN.{length, getD}
+use Rattle.distr.specs.declared.threshold.Threshold.{Threshold}
+use Rattle.distr.specs.Constants.{literal}
+use Rattle.distr.specs.Layered.{Layers, inUnit, layerTables, zeroThreshold}
+use Rattle.distr.specs.Thresholds.{threshold}
 use Rattle.distr.specs.Making.{badProbability}
 use Rattle.distr.proofs.Reading.{and-both, T-true}
+use Rattle.words.specs.Reading.{thresholdValue}
+use Rattle.probability.proofs.Made.{flagged-value, made-threshold}
+use Rattle.layer_tables.proofs.Judging.{getD-there}
+use Rattle.ziggurat.specs.Sampling.{zeroOver}
+use Rattle.ziggurat.proofs.LayerTables.{some-layers, heights-count, first-finite, first-high}
 
 -- what lies between 0 and 1 is finite
 unit-finite : (p : Float) → T (le (literal 0 1) p) → T (le p (literal 1 1)) → T (finite p)
@@ -42,3 +50,17 @@ half-over (fin false m e) f t =
     (good (round binary64 false (1 * down e) (m * up e * 2))
     (round-mono binary64 0 1 (1 * down e) (m * up e * 2) (zero-lt-suc 0) over (omega arith))
     (round-mono binary64 (1 * down e) (m * up e * 2) 1 1 over (zero-lt-suc 0) (omega arith)))
+
+-- good tables have a first height, and the threshold made by it is that of zero
+module _ (M : ℕ) (t : Layers) (good-tables : T (layerTables M t)) where
+  pub first-there : 0 < length (t .heights)
+  first-there = omega (arith, heights-count M t good-tables, some-layers M t good-tables)
+
+  pub zero-made : {made : Threshold} → made ≡ zeroOver (getD (t .heights) 0 nan) → thresholdValue made ≡ zeroThreshold t
+  zero-made e =
+      let first = getD (t .heights) 0 (literal 0 1) in
+      let p = div binary64 (literal 1 2) first in
+      ap thresholdValue e
+      ∙ ap (λ (h : Float). thresholdValue (zeroOver h)) (getD-there (t .heights) 0 nan (literal 0 1) first-there)
+      ∙ ap thresholdValue (made-threshold p (half-over first (first-finite M t good-tables) (first-high M t good-tables)))
+      ∙ flagged-value (threshold p)

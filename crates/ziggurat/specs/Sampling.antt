@@ -5,9 +5,12 @@ use mathlib.Core.Bool.{Bool, false, cond, _&&_}
 use mathlib.Core.List.{List}
 use lib.Dec.{leb, ltb, eqb}
 use lib.ListN.{length, getD, drop}
-use lib.Ieee.{Float}
+use lib.Ieee.{Float, binary64, div}
+use Rattle.distr.specs.declared.threshold.Threshold.{Threshold}
+use Rattle.distr.specs.Constants.{literal}
 use Rattle.distr.specs.Words.{Read, got, short, mapRead, bindRead, word, choose, coin, chance}
 use Rattle.distr.specs.Layered.{Layers, accepts, zeroThreshold}
+use Rattle.probability.specs.Made.{madeThreshold}
 use Rattle.ziggurat.specs.declared.sampling.Trial.{Trial}
 use Rattle.ziggurat.specs.declared.sampling.Attempted.{Attempted}
 use Rattle.ziggurat.specs.declared.sampling.Attempted.the-variants.{Got as Begun, Short as Unbegun}
@@ -52,6 +55,10 @@ proposalSound endpoints ws at Short = Unit
 pub record Proposes (endpoints ws : List ℕ) (place : ℕ) (r : Proposal) : Type 0 where
   pub reads : proposalRead ws r ≡ propose endpoints (drop place ws)
   pub sound : proposalSound endpoints ws place r
+
+-- The threshold of zero as it is made, by the first height.
+abbrev pub zeroOver : Float → Threshold
+zeroOver first = madeThreshold (div binary64 (literal 1 2) first) .threshold
 
 -- Inside the layer above, the test made on integers.
 abbrev pub isInside : List ℕ → ℕ → ℕ → Bool

@@ -7,6 +7,7 @@ use lib.ListN.{length}
 use lib.IntN.{ℤ}
 use lib.Ieee.{Float}
 use Rattle.distr.specs.declared.gaussian_parameters.GaussianParameters.{GaussianParameters}
+use Rattle.distr.specs.Constants.{invalidLayerTables}
 use Rattle.distr.specs.Making.{refuse}
 use Rattle.distr.specs.Layered.{Layers, layerTables, layered}
 use Rattle.distr.specs.Draw.{Outcome, readDraw}
@@ -22,5 +23,5 @@ layerSizes endpoints = eqb (length endpoints - 1) 128 || eqb (length endpoints -
 -- A layered draw: 22, 6, 13, or what the rules give.
 abbrev pub layeredDraw : {A : Type 0} → (List ℤ → List A) → GaussianParameters → Layers → List ℕ → ℕ → List A → Outcome A
 layeredDraw write parameters t words place out =
-    readDraw write (refuse (not (layerTables (parameters .«maximum_magnitude») t)) 13)
+    readDraw write (refuse (not (layerTables (parameters .«maximum_magnitude») t)) invalidLayerTables)
     (layered (parameters .«standard_deviation») t (length out)) words place out

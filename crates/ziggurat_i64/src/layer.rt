@@ -1,10 +1,10 @@
 // A layer taken out of the lent tables.
-use fringe::Layer;
+use edge::Layer;
 ghost use mathlib.Core.Path.{_≡_};
 ghost use mathlib.Core.List.{[]};
 ghost use Prim.Native.Nat.{_-_, _<_, _^_};
 ghost use lib.ListN.{length, getD};
-ghost use Rattle.fringe.specs.Fringe.{layerAt};
+ghost use Rattle.edge.specs.Edge.{layerAt};
 ghost use Rattle.ziggurat.specs.Tables.{tables};
 
 // Layer i of the tables. The first layer's chord starts at 1.0, whatever the first height is.

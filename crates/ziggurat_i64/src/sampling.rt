@@ -11,7 +11,7 @@ ghost use Prim.Native.Nat.{_+_, _≤_};
 ghost use lib.Dec.{T};
 ghost use lib.ListN.{length, drop};
 ghost use Rattle.distr.specs.Words.{got};
-ghost use Rattle.distr.specs.Layered.{layerTables, zeroThreshold};
+ghost use Rattle.distr.specs.Layered.{zeroThreshold};
 ghost use Rattle.words.specs.Reading.{thresholdValue};
 ghost use Rattle.ziggurat.specs.Tables.{tables, layerSizes};
 ghost use Rattle.ziggurat.specs.Sampling.{Proposes, OnLayer, OnTables, isInside, edgeWords, Attempts, judgeEdge};
@@ -72,7 +72,7 @@ pub(crate) fn attempt(endpoints: &[u64], zero: Threshold, words: &[u32], place: 
     Attempted::Got(tried, false, next + taken)
 }
 
-// Whether a magnitude passes that is not inside the layer above, by the words at a place: 0 by its threshold, another by the test on the fringe.
+// Whether a magnitude passes that is not inside the layer above, by the words at a place: 0 by its threshold, another by the test on the edge.
 pub(crate) fn passes_edge(
     deviation: f64,
     zero: Threshold,
@@ -94,23 +94,9 @@ pub(crate) fn passes_edge(
         if zero.full {
             return true;
         }
-        return words[place] as u64 + words[place + 1] as u64 * 0x1_0000_0000 < zero.below;
+        return words::wide_word(words[place], words[place + 1]) < zero.below;
     }
     let here = layer::layer_at(endpoints, heights, layer);
     let pdf = curve[magnitude as usize];
-    fringe::accepts(deviation, here, magnitude, pdf, words[place])
-}
-
-// The threshold by which magnitude 0 passes: that of 0.5 over the first height. Zero is shared by both signs.
-pub(crate) fn zero_threshold(
-    maximum_magnitude: u64,
-    endpoints: &[u64],
-    heights: &[f64],
-    curve: &[f64],
-) -> Threshold
-    requires { ⌜ T (layerTables «maximum_magnitude» (tables (now endpoints) (now heights) (now curve))) ⌝ }
-    ensures { λ r. ⌜ thresholdValue r ≡ zeroThreshold (tables (now (endpoints .entry)) (now (heights .entry)) (now (curve .entry))) ⌝ }
-{
-    let made = probability::threshold_of(0.5 / heights[0]);
-    made.threshold
+    edge::accepts(deviation, here, magnitude, pdf, words[place])
 }

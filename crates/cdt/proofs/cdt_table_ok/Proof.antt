@@ -3,7 +3,7 @@ use mathlib.Core.Path.{sym}
 use Prim.Native.Nat.{_+_, _-_, _^_}
 use native.Mathlib.Omega.{arith}
 use borrow.Author.Needs.{needs}
-use Rattle.rising.proofs.Judging.{rising-other}
+use Rattle.gaussian_core.proofs.Tables.{rising-other}
 use Rattle.cdt.proofs.cdt_table_ok.Statement.{statement}
 use Rattle.cdt.proofs.cdt_table_ok.Tie as tie
 

@@ -8,7 +8,9 @@ new-requires : tie.Need-new-requires
 new-requires c κs = search needs
 
 returns : tie.Need-returns
-returns c = rw (c .before .before .before .new .ensures) (made-test (c .before .before .before .before .args .parameters))
+returns c =
+    let args = c .before .before .before .before .args in
+    rw (c .before .before .before .new .ensures) (made-test (args .parameters))
 
 pub is-made-spec : {M : Type 1} → statement M
 is-made-spec = tie.close (tie.spec new-requires returns)

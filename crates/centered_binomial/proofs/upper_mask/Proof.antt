@@ -24,7 +24,9 @@ cast-result : tie.Need-cast-result
 cast-result c = search needs
 
 shl-result : tie.Need-shl-result
-shl-result c = omega (arith, made-small (c .before .before .before .before .args .parameters) (made (c .before .before)))
+shl-result c =
+    let args = c .before .before .before .before .args in
+    omega (arith, made-small (args .parameters) (made (c .before .before)))
 
 returns-2 : tie.Need-returns-2
 returns-2 c = let s = c .before .before in rw (made s) (upper-fits (s .before .before .args .parameters) (made s))

@@ -5,39 +5,19 @@ use Rattle.crt.proofs.Finishing.{finished-rows, finished-zeros, finishe
 use Rattle.crt.proofs.finish.Statement.{statement}
 use Rattle.crt.proofs.finish.Tie as tie
 
-spread-rows-requires : tie.Need-spread-rows-requires
-spread-rows-requires c κs = search needs
-
-clear-requires : tie.Need-clear-requires
-clear-requires c κs = search needs
-
-same-length : tie.Need-same-length
-same-length c = search needs
-
 returns : tie.Need-returns
 returns c =
     let called = c .before .before in
-    finished-rows _ _ _ _ (called .before .before .if1 .taken) (called .spread-rows .ensures)
-
-same-length-2 : tie.Need-same-length-2
-same-length-2 c = search needs
+    finished-rows _ _ _ _ _ (called .before .before .if1 .taken) (called .spread-rows .ensures)
 
 returns-2 : tie.Need-returns-2
 returns-2 c =
     let called = c .before .before in
-    finished-zeros _ _ _ _ (called .before .before .if2 .taken) (called .clear .ensures)
+    finished-zeros _ _ _ _ _ (called .before .before .if2 .taken) (called .clear .ensures)
 
 returns-3 : tie.Need-returns-3
-returns-3 c = finished-kept _ _ _ _ (c .before .if1 .left) (c .if2 .left) refl
+returns-3 c = finished-kept _ _ _ _ _ (c .before .if1 .left) (c .if2 .left) refl
 
 pub finish-spec : {M : Type 1} → statement M
 finish-spec =
-    tie.close
-    (tie.spec
-    spread-rows-requires
-    clear-requires
-    same-length
-    returns
-    same-length-2
-    returns-2
-    returns-3)
+    tie.close (tie.spec (λ c κs. search needs) (λ c κs. search needs) (λ c. search needs) returns (λ c. search needs) returns-2 returns-3)

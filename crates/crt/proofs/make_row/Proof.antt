@@ -16,14 +16,8 @@ Inv-loop output₀ at last modulus count c₀ output c =
 abbrev μ-loop : tie.MeasureT-loop
 μ-loop output₀ at last modulus count c₀ output c = count - c
 
-sub-count : tie.Need-sub-count Inv-loop μ-loop
-sub-count c = omega arith
-
 loop-holds : tie.Need-loop-holds Inv-loop μ-loop
 loop-holds c = (omega arith, c .before .pre .0, c .before .pre .1, made-none _ _ _ _ _ _)
-
-add-word : tie.Need-add-word Inv-loop μ-loop
-add-word c = omega arith
 
 mul-word : tie.Need-mul-word Inv-loop μ-loop
 mul-word c =
@@ -35,12 +29,6 @@ slice-read-word c =
     let loop = c .before .before .loop in
     omega (arith, made-length _ _ _ _ _ _ (omega arith) (loop .inv .3))
 
-from-native-requires : tie.Need-from-native-requires Inv-loop μ-loop
-from-native-requires c κs = search needs
-
-add-output : tie.Need-add-output Inv-loop μ-loop
-add-output c = omega arith
-
 mul-output : tie.Need-mul-output Inv-loop μ-loop
 mul-output c =
     let loop = c .before .before .before .loop in
@@ -50,12 +38,6 @@ slice-write-output : tie.Need-slice-write-output Inv-loop μ-loop
 slice-write-output c =
     let loop = c .before .before .before .loop in
     omega (arith, made-length _ _ _ _ _ _ (omega arith) (loop .inv .3))
-
-add-c : tie.Need-add-c Inv-loop μ-loop
-add-c c = omega arith
-
-loop-less : tie.Need-loop-less Inv-loop μ-loop
-loop-less c = omega arith
 
 loop-again : tie.Need-loop-again Inv-loop μ-loop
 loop-again c =
@@ -71,20 +53,5 @@ returns c = rw (le-antisymm (c .loop-test .left) (c .before .loop .inv .0)) (c .
 pub make-row-spec : {M : Type 1} → statement M
 make-row-spec =
     tie.close
-    (tie.spec
-    Inv-loop
-    μ-loop
-    sub-count
-    loop-holds
-    add-word
-    mul-word
-    slice-read-word
-    from-native-requires
-    add-output
-    mul-output
-    slice-write-output
-    add-c
-    loop-less
-    loop-again
-    same-length
-    returns)
+    (tie.spec Inv-loop μ-loop (λ c. omega arith) loop-holds (λ c. omega arith) mul-word slice-read-word (λ c κs. search needs) (λ c. omega arith)
+    mul-output slice-write-output (λ c. omega arith) (λ c. omega arith) loop-again same-length returns)

@@ -16,28 +16,18 @@ abbrev μ-loop : tie.MeasureT-loop
 loop-holds : tie.Need-loop-holds Inv-loop μ-loop
 loop-holds c = (omega arith, passed-none _ _)
 
-mul-modulus : tie.Need-mul-modulus Inv-loop μ-loop
-mul-modulus c = omega arith
-
-shared-slice-read-modulus : tie.Need-shared-slice-read-modulus Inv-loop μ-loop
-shared-slice-read-modulus c = omega arith
-
 returns : tie.Need-returns Inv-loop μ-loop
 returns c = sym (passed-zero _ _ (c .before .before .before .loop .inv .1) (omega arith) (c .if1 .taken))
 
 returns-2 : tie.Need-returns-2 Inv-loop μ-loop
 returns-2 c =
-    sym (passed-small _ _ (c .before .before .before .before .loop .inv .1) (omega arith) (c .before .if1 .left) (c .if2 .taken))
-
-add-i : tie.Need-add-i Inv-loop μ-loop
-add-i c = omega arith
-
-loop-less : tie.Need-loop-less Inv-loop μ-loop
-loop-less c = omega arith
+    let loop = c .before .before .before .before .loop in
+    sym (passed-small _ _ (loop .inv .1) (omega arith) (c .before .if1 .left) (c .if2 .taken))
 
 loop-again : tie.Need-loop-again Inv-loop μ-loop
 loop-again c =
-    (omega arith, passed-more _ _ (c .before .before .before .before .loop .inv .1) (omega arith) (c .before .if1 .left) (c .if2 .left))
+    let loop = c .before .before .before .before .loop in
+    (omega arith, passed-more _ _ (loop .inv .1) (omega arith) (c .before .if1 .left) (c .if2 .left))
 
 returns-3 : tie.Need-returns-3 Inv-loop μ-loop
 returns-3 c = sym (passed-all _ _ (c .before .loop .inv .1) (c .loop-test .left))
@@ -45,15 +35,5 @@ returns-3 c = sym (passed-all _ _ (c .before .loop .inv .1) (c .loop-test .left)
 pub moduli-number-spec : {M : Type 1} → statement M
 moduli-number-spec =
     tie.close
-    (tie.spec
-    Inv-loop
-    μ-loop
-    loop-holds
-    mul-modulus
-    shared-slice-read-modulus
-    returns
-    returns-2
-    add-i
-    loop-less
-    loop-again
+    (tie.spec Inv-loop μ-loop loop-holds (λ c. omega arith) (λ c. omega arith) returns returns-2 (λ c. omega arith) (λ c. omega arith) loop-again
     returns-3)

@@ -5,24 +5,6 @@ use borrow.Author.Needs.{needs}
 use Rattle.error_method.proofs.prepare.Statement.{statement}
 use Rattle.error_method.proofs.prepare.Tie as tie
 
-enum-known-distribution : tie.Need-enum-known-distribution
-enum-known-distribution c = search needs
-
-new-parameters-requires : tie.Need-new-parameters-requires
-new-parameters-requires c κs = search needs
-
-judged-requires : tie.Need-judged-requires
-judged-requires c κs = search needs
-
-enum-known-distribution-2 : tie.Need-enum-known-distribution-2
-enum-known-distribution-2 c = search needs
-
-new-requires : tie.Need-new-requires
-new-requires c κs = search needs
-
-judged-requires-2 : tie.Need-judged-requires-2
-judged-requires-2 c κs = search needs
-
 returns : tie.Need-returns
 returns c =
     let d = c .before .before .before .before .distribution .given in
@@ -36,12 +18,5 @@ returns-2 c =
 pub prepare-spec : {M : Type 1} → statement M
 prepare-spec =
     tie.close
-    (tie.spec
-    enum-known-distribution
-    new-parameters-requires
-    judged-requires
-    enum-known-distribution-2
-    new-requires
-    judged-requires-2
-    returns
-    returns-2)
+    (tie.spec (λ c. search needs) (λ c κs. search needs) (λ c κs. search needs) (λ c. search needs) (λ c κs. search needs) (λ c κs. search needs)
+    returns returns-2)

@@ -4,7 +4,7 @@ use native.Mathlib.Omega.{arith}
 use borrow.Author.Tests.{eq-eqb, ne-eqb}
 use lib.ListN.{length}
 use lib.Ieee.{nan, round, ofBits}
-use Rattle.distr.specs.Gaussian.{literal}
+use Rattle.distr.specs.Constants.{literal}
 use Rattle.layer_tables.proofs.Judging.{getD-there}
 use borrow.Author.Needs.{needs}
 use Rattle.layer_tables.proofs.heights_ok.Statement.{statement}
@@ -15,28 +15,10 @@ returns c =
     let a = c .before .before .args in
     rw (ne-eqb (length (a .heights .now)) (a .layers + 1) (λ e. omega arith))
 
-sub-if2 : tie.Need-sub-if2
-sub-if2 c = search needs
-
 returns-2 : tie.Need-returns-2
 returns-2 c =
     let a = c .before .before .before .args in
     rw (ne-eqb (length (a .heights .now)) (a .layers + 1) (λ e. c .if2 .taken (omega arith)))
-
-all-finite-requires : tie.Need-all-finite-requires
-all-finite-requires c κs = search needs
-
-falls-requires : tie.Need-falls-requires
-falls-requires c κs = search needs
-
-shared-slice-read-result : tie.Need-shared-slice-read-result
-shared-slice-read-result c = search needs
-
-mul-result : tie.Need-mul-result
-mul-result c = search needs
-
-shared-slice-read-result-2 : tie.Need-shared-slice-read-result-2
-shared-slice-read-result-2 c = search needs
 
 returns-3 : tie.Need-returns-3
 unfolding round ofBits
@@ -54,13 +36,5 @@ returns-3 c =
 pub heights-ok-spec : {M : Type 1} → statement M
 heights-ok-spec =
     tie.close
-    (tie.spec
-    returns
-    sub-if2
-    returns-2
-    all-finite-requires
-    falls-requires
-    shared-slice-read-result
-    mul-result
-    shared-slice-read-result-2
-    returns-3)
+    (tie.spec returns (λ c. search needs) returns-2 (λ c κs. search needs) (λ c κs. search needs) (λ c. search needs) (λ c. search needs)
+    (λ c. search needs) returns-3)

@@ -11,18 +11,6 @@ returns : tie.Need-returns
 returns c =
     rw (c .if1 .taken)
 
-sub-layers : tie.Need-sub-layers
-sub-layers c = search needs
-
-rising-ok-requires : tie.Need-rising-ok-requires
-rising-ok-requires c κs = search needs
-
-heights-ok-requires : tie.Need-heights-ok-requires
-heights-ok-requires c κs = search needs
-
-curve-ok-requires : tie.Need-curve-ok-requires
-curve-ok-requires c κs = search needs
-
 returns-2 : tie.Need-returns-2
 returns-2 c =
     let a = c .before .before .before .before .before .before .before .before .args in
@@ -36,12 +24,4 @@ returns-3 c =
 
 pub layer-tables-ok-spec : {M : Type 1} → statement M
 layer-tables-ok-spec =
-    tie.close
-    (tie.spec
-    returns
-    sub-layers
-    rising-ok-requires
-    heights-ok-requires
-    curve-ok-requires
-    returns-2
-    returns-3)
+    tie.close (tie.spec returns (λ c. search needs) (λ c κs. search needs) (λ c κs. search needs) (λ c κs. search needs) returns-2 returns-3)

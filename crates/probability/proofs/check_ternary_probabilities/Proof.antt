@@ -4,12 +4,6 @@ use borrow.Author.Needs.{needs}
 use Rattle.probability.proofs.check_ternary_probabilities.Statement.{statement}
 use Rattle.probability.proofs.check_ternary_probabilities.Tie as tie
 
-bad-probability-requires : tie.Need-bad-probability-requires
-bad-probability-requires c κs = search needs
-
-bad-probability-requires-2 : tie.Need-bad-probability-requires-2
-bad-probability-requires-2 c κs = search needs
-
 returns : tie.Need-returns
 unfolding ofBits round
 returns c = rw (← c .before .before .bad-probability .ensures, ← c .before .bad-probability2 .ensures, c .if1 .taken)
@@ -20,4 +14,4 @@ returns-2 c = rw (← c .before .before .bad-probability .ensures, ← c .before
 
 pub check-ternary-probabilities-spec : {M : Type 1} → statement M
 check-ternary-probabilities-spec =
-    tie.close (tie.spec bad-probability-requires bad-probability-requires-2 returns returns-2)
+    tie.close (tie.spec (λ c κs. search needs) (λ c κs. search needs) returns returns-2)

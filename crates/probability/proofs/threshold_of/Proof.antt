@@ -13,9 +13,6 @@ use Rattle.probability.proofs.Thresholds.{Below, below-one, at-one, sca
 use Rattle.probability.proofs.threshold_of.Statement.{statement}
 use Rattle.probability.proofs.threshold_of.Tie as tie
 
-bad-probability-requires : tie.Need-bad-probability-requires
-bad-probability-requires c κs = search needs
-
 returns : tie.Need-returns
 unfolding madeThreshold
 returns c = rw (← c .before .bad-probability .ensures, c .if1 .taken)
@@ -55,5 +52,4 @@ returns-3 c =
 
 pub threshold-of-spec : {M : Type 1} → statement M
 threshold-of-spec =
-    tie.close
-    (tie.spec bad-probability-requires returns truncating-f64-to-u64-requires returns-2 returns-3)
+    tie.close (tie.spec (λ c κs. search needs) returns truncating-f64-to-u64-requires returns-2 returns-3)

@@ -5,48 +5,6 @@ use borrow.Author.Needs.{needs}
 use Rattle.secret_key_sampler.proofs.length_number.Statement.{statement}
 use Rattle.secret_key_sampler.proofs.length_number.Tie as tie
 
-enum-told : tie.Need-enum-told
-enum-told c = search needs
-
-enum-told-2 : tie.Need-enum-told-2
-enum-told-2 c = search needs
-
-enum-told-3 : tie.Need-enum-told-3
-enum-told-3 c = search needs
-
-enum-told-4 : tie.Need-enum-told-4
-enum-told-4 c = search needs
-
-enum-told-5 : tie.Need-enum-told-5
-enum-told-5 c = search needs
-
-enum-known-distr : tie.Need-enum-known-distr
-enum-known-distr c = search needs
-
-weight-number-requires : tie.Need-weight-number-requires
-weight-number-requires c κs = search needs
-
-enum-known-distr-2 : tie.Need-enum-known-distr-2
-enum-known-distr-2 c = search needs
-
-block-number-requires : tie.Need-block-number-requires
-block-number-requires c κs = search needs
-
-enum-known-distr-3 : tie.Need-enum-known-distr-3
-enum-known-distr-3 c = search needs
-
-weight-number-requires-2 : tie.Need-weight-number-requires-2
-weight-number-requires-2 c κs = search needs
-
-enum-known-distr-4 : tie.Need-enum-known-distr-4
-enum-known-distr-4 c = search needs
-
-weight-number-requires-3 : tie.Need-weight-number-requires-3
-weight-number-requires-3 c κs = search needs
-
-enum-told-6 : tie.Need-enum-told-6
-enum-told-6 c = search needs
-
 returns : tie.Need-returns
 unfolding lengthNumber
 returns c = rw (c .enum-told .given .1)
@@ -90,28 +48,6 @@ returns-10 c = rw (c .enum-told6 .given .1)
 pub length-number-spec : {M : Type 1} → statement M
 length-number-spec =
     tie.close
-    (tie.spec
-    enum-told
-    enum-told-2
-    enum-told-3
-    enum-told-4
-    enum-told-5
-    enum-known-distr
-    weight-number-requires
-    enum-known-distr-2
-    block-number-requires
-    enum-known-distr-3
-    weight-number-requires-2
-    enum-known-distr-4
-    weight-number-requires-3
-    enum-told-6
-    returns
-    returns-2
-    returns-3
-    returns-4
-    returns-5
-    returns-6
-    returns-7
-    returns-8
-    returns-9
-    returns-10)
+    (tie.spec (λ c. search needs) (λ c. search needs) (λ c. search needs) (λ c. search needs) (λ c. search needs) (λ c. search needs)
+    (λ c κs. search needs) (λ c. search needs) (λ c κs. search needs) (λ c. search needs) (λ c κs. search needs) (λ c. search needs)
+    (λ c κs. search needs) (λ c. search needs) returns returns-2 returns-3 returns-4 returns-5 returns-6 returns-7 returns-8 returns-9 returns-10)

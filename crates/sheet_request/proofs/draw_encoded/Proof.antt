@@ -1,71 +1,25 @@
--- `draw_encoded` draws by the sampler of the distribution that the kind selects.
+-- `draw_encoded` draws what the kind selects.
 use mathlib.Core.Path.{_∙_}
-use Rattle.sheet_request.proofs.Requests.{byRequest, encoded-request}
+use mathlib.Core.Bool.{true}
 use borrow.Author.Needs.{needs}
+use Rattle.distr.specs.Distribution.{Distr}
+use Rattle.distr.specs.Draw.{encodedDraw, noTables, encodedAtOnce}
+use Rattle.sheet_request.specs.Request.{requestEncoded}
+use Rattle.sheet_request.proofs.Requests.{asked-draw}
 use Rattle.sheet_request.proofs.draw_encoded.Statement.{statement}
 use Rattle.sheet_request.proofs.draw_encoded.Tie as tie
 
-select-requires : tie.Need-select-requires
-select-requires c κs = search needs
-
-enum-known-distr : tie.Need-enum-known-distr
-enum-known-distr c = search needs
-
-draw-secret-u64-requires : tie.Need-draw-secret-u64-requires
-draw-secret-u64-requires c κs = search needs
-
-enum-known-distr-2 : tie.Need-enum-known-distr-2
-enum-known-distr-2 c = search needs
-
-draw-error-u64-requires : tie.Need-draw-error-u64-requires
-draw-error-u64-requires c κs = search needs
-
-enum-told : tie.Need-enum-told
-enum-told c = search needs
-
-same-length : tie.Need-same-length
-same-length c = search needs
-
 returns : tie.Need-returns
-unfolding byRequest
+unfolding requestEncoded encodedAtOnce
 returns c =
-    let start = c .before .before .before .before .before .before .before .before .before .before in
-    let asked = c .before .before .before .before .before .before .before .select in
-    c .before .before .draw-secret-u64 .ensures
-    ∙ encoded-request (start .args .kind) (start .args .a) (start .args .b) (start .args .modulus) (start .args .words .now) (start .args .output .now)
-    (c .before .before .before .before .before .distr .given .1) (asked .ensures)
-
-same-length-2 : tie.Need-same-length-2
-same-length-2 c = search needs
-
-returns-2 : tie.Need-returns-2
-unfolding byRequest
-returns-2 c =
-    let start = c .before .before .before .before .before .before .before .before .before .before in
-    let asked = c .before .before .before .before .before .before .before .select in
-    c .before .before .draw-error-u64 .ensures
-    ∙ encoded-request (start .args .kind) (start .args .a) (start .args .b) (start .args .modulus) (start .args .words .now) (start .args .output .now)
-    (c .before .before .before .before .before .distr2 .given .1) (asked .ensures)
-
-returns-3 : tie.Need-returns-3
-unfolding byRequest
-returns-3 c =
-    let start = c .before .before .before .before .before in
-    encoded-request (start .args .kind) (start .args .a) (start .args .b) (start .args .modulus) (start .args .words .now) (start .args .output .now)
-    (c .enum-told .given .1) (c .before .before .select .ensures)
+    let asked = c .before .before .before .before .before .before .before .before in
+    let a = asked .before .before .before .args in
+    c .before .before .draw-encoded .ensures
+    ∙ asked-draw (λ (d : Distr). encodedDraw true d noTables (a .modulus) (a .words .now) 0 (a .output .now)) (a .output .now) (a .kind) (a .a) (a .b)
+    (asked .select .ensures)
 
 pub draw-encoded-spec : {M : Type 1} → statement M
 draw-encoded-spec =
     tie.close
-    (tie.spec
-    select-requires
-    enum-known-distr
-    draw-secret-u64-requires
-    enum-known-distr-2
-    draw-error-u64-requires
-    enum-told
-    same-length
-    returns
-    same-length-2
-    returns-2
-    returns-3)
+    (tie.spec (λ c κs. search needs) (λ c. search needs) (λ c. search needs) (λ c. search needs) (λ c. search needs) (λ c κs. search needs)
+    (λ c. search needs) returns)

@@ -6,39 +6,22 @@ use Rattle.signed_discrete_gaussian.proofs.Backends.{draw-small, draw-large}
 use Rattle.signed_discrete_gaussian_u64.proofs.sample_gaussian_to.Statement.{statement}
 use Rattle.signed_discrete_gaussian_u64.proofs.sample_gaussian_to.Tie as tie
 
-sample-cdt-to-requires : tie.Need-sample-cdt-to-requires
-sample-cdt-to-requires c κs = search needs
-
-sample-ziggurat-to-requires : tie.Need-sample-ziggurat-to-requires
-sample-ziggurat-to-requires c κs = search needs
-
-same-length : tie.Need-same-length
-same-length c = search needs
-
 returns : tie.Need-returns
 returns c =
+    let if1 = c .before .before .before .before .if1 in
     let a = c .before .before .before .before .before .before .before .before .before .before .before .before .args in
     draw-small (held (a .encoding)) (a .parameters .«standard_deviation») (a .parameters .«maximum_magnitude»)
     (lent (a .bounds .now) (a .endpoints .now) (a .heights .now) (a .curve .now)) (a .words .now) (a .place) (a .output .now)
-    _ (c .before .before .before .before .if1 .taken) (c .before .before .sample-cdt-to .ensures)
-
-same-length-2 : tie.Need-same-length-2
-same-length-2 c = search needs
+    _ (if1 .taken) (c .before .before .sample-cdt-to .ensures)
 
 returns-2 : tie.Need-returns-2
 returns-2 c =
+    let if1 = c .before .before .before .before .if1 in
     let a = c .before .before .before .before .before .before .before .before .before .before .before .before .args in
     draw-large (held (a .encoding)) (a .parameters .«standard_deviation») (a .parameters .«maximum_magnitude»)
     (lent (a .bounds .now) (a .endpoints .now) (a .heights .now) (a .curve .now)) (a .words .now) (a .place) (a .output .now)
-    _ (c .before .before .before .before .if1 .left) (c .before .before .sample-ziggurat-to .ensures)
+    _ (if1 .left) (c .before .before .sample-ziggurat-to .ensures)
 
 pub sample-gaussian-to-spec : {M : Type 1} → statement M
 sample-gaussian-to-spec =
-    tie.close
-    (tie.spec
-    sample-cdt-to-requires
-    sample-ziggurat-to-requires
-    same-length
-    returns
-    same-length-2
-    returns-2)
+    tie.close (tie.spec (λ c κs. search needs) (λ c κs. search needs) (λ c. search needs) returns (λ c. search needs) returns-2)

@@ -1,11 +1,12 @@
 -- `words::bernoulli` tells the chance of a threshold: the full one reads nothing, another the next 64-bit word.
-use mathlib.Core.Path.{refl, sym, _∙_}
+use mathlib.Core.Path.{_≡_, refl, sym, _∙_}
 use native.Mathlib.Omega.{arith}
 use borrow.Author.Needs.{needs}
 use borrow.Author.Tests.{lt-ltb, le-ltb}
 use lib.ListN.{length, drop}
+use Rattle.words.specs.declared.Taken.{Taken}
 use Rattle.words.specs.Reading.{toldChance}
-use Rattle.words.proofs.Places.{chance-told}
+use Rattle.words.proofs.Places.{verdict, chance-told}
 use Rattle.words.proofs.bernoulli.Statement.{statement}
 use Rattle.words.proofs.bernoulli.Tie as tie
 
@@ -13,41 +14,24 @@ returns : tie.Need-returns
 unfolding toldChance
 returns c = rw (c .if1 .taken) refl
 
-next-u64-requires : tie.Need-next-u64-requires
-next-u64-requires c κs = search needs
-
-enum-known-value : tie.Need-enum-known-value
-enum-known-value c = search needs
-
-enum-told : tie.Need-enum-told
-enum-told c = search needs
+-- past the first test the threshold judges what was taken
+judged : (c : tie.After-next-u64) (t : Taken) → c .next-u64 .result ≡ t
+    → let a = c .before .before .before .args in verdict (a .threshold .below) t ≡ toldChance (a .words .now) (a .place) (a .threshold)
+unfolding toldChance
+judged c t e =
+    let a = c .before .before .before .args in
+    rw (c .before .if1 .left)
+    (chance-told (length (a .words .now)) (a .threshold .below) (drop (a .place) (a .words .now)) t (omega arith) (sym e ∙ c .next-u64 .ensures))
 
 returns-2 : tie.Need-returns-2
-unfolding toldChance
-returns-2 c =
-    let a = c .before .before .before .before .before .before .before .args in
-    rw (c .before .before .before .before .before .if1 .left)
-    (rw (lt-ltb _ _ (c .if2 .taken)) at
-    (chance-told (length (a .words .now)) (a .threshold .below) (drop (a .place) (a .words .now)) _ (omega arith)
-    (sym (c .before .before .value .given .1) ∙ c .before .before .before .before .next-u64 .ensures)))
+returns-2 c = rw (lt-ltb _ _ (c .if2 .taken)) at (judged (c .before .before .before .before) _ (c .before .before .value .given .1))
 
 returns-3 : tie.Need-returns-3
-unfolding toldChance
-returns-3 c =
-    let a = c .before .before .before .before .before .before .before .args in
-    rw (c .before .before .before .before .before .if1 .left)
-    (rw (le-ltb _ _ (c .if2 .left)) at
-    (chance-told (length (a .words .now)) (a .threshold .below) (drop (a .place) (a .words .now)) _ (omega arith)
-    (sym (c .before .before .value .given .1) ∙ c .before .before .before .before .next-u64 .ensures)))
+returns-3 c = rw (le-ltb _ _ (c .if2 .left)) at (judged (c .before .before .before .before) _ (c .before .before .value .given .1))
 
 returns-4 : tie.Need-returns-4
-unfolding toldChance
-returns-4 c =
-    let a = c .before .before .before .before .before .args in
-    rw (c .before .before .before .if1 .left)
-    (chance-told (length (a .words .now)) (a .threshold .below) (drop (a .place) (a .words .now)) _ (omega arith)
-    (sym (c .enum-told .given .1) ∙ c .before .before .next-u64 .ensures))
+returns-4 c = judged (c .before .before) _ (c .enum-told .given .1)
 
 pub bernoulli-spec : {M : Type 1} → statement M
 bernoulli-spec =
-    tie.close (tie.spec returns next-u64-requires enum-known-value enum-told returns-2 returns-3 returns-4)
+    tie.close (tie.spec returns (λ c κs. search needs) (λ c. search needs) (λ c. search needs) returns-2 returns-3 returns-4)

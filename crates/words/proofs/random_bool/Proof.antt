@@ -7,18 +7,6 @@ use Rattle.words.proofs.Places.{coin-there, coin-missing, told-yes, tol
 use Rattle.words.proofs.random_bool.Statement.{statement}
 use Rattle.words.proofs.random_bool.Tie as tie
 
-mul-if2 : tie.Need-mul-if2
-mul-if2 c = search needs
-
-shared-slice-read-if2 : tie.Need-shared-slice-read-if2
-shared-slice-read-if2 c = search needs
-
-add-t11 : tie.Need-add-t11
-add-t11 c = search needs
-
-add-t12 : tie.Need-add-t12
-add-t12 c = search needs
-
 returns : tie.Need-returns
 returns c =
     let a = c .before .before .before .args in
@@ -38,4 +26,4 @@ returns-3 c =
 
 pub random-bool-spec : {M : Type 1} → statement M
 random-bool-spec =
-    tie.close (tie.spec mul-if2 shared-slice-read-if2 add-t11 add-t12 returns returns-2 returns-3)
+    tie.close (tie.spec (λ c. search needs) (λ c. search needs) (λ c. search needs) (λ c. search needs) returns returns-2 returns-3)

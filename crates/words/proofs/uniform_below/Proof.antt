@@ -1,7 +1,7 @@
 -- `words::uniform_below` hands back the choice among k and the place after it. The loop's invariant: the choice from the words left now is
 -- the choice from those left at first. The measure is what is left of the words.
 use mathlib.Core.Path.{_≡_, refl, sym, ap, _∙_}
-use Prim.Native.Nat.{ℕ, suc, _-_, _%_}
+use Prim.Native.Nat.{ℕ, suc, _-_, _%_, _<_}
 use native.Mathlib.Nat.{pos-of-ne-zero, mod-le, mul-zero, div-eq-of-lt}
 use native.Mathlib.Numerals.{add-one}
 use native.Mathlib.Omega.{arith}
@@ -35,82 +35,61 @@ returns-2 c =
 loop-holds : tie.Need-loop-holds Inv-loop μ-loop
 loop-holds c = refl
 
-mul-w : tie.Need-mul-w Inv-loop μ-loop
-mul-w c = omega arith
-
-shared-slice-read-w : tie.Need-shared-slice-read-w Inv-loop μ-loop
-shared-slice-read-w c = omega arith
-
 remainder-requires : tie.Need-remainder-requires Inv-loop μ-loop
-remainder-requires c κs = pos-of-ne-zero (c .before .before .before .before .if1 .left)
+remainder-requires c κs =
+    let if1 = c .before .before .before .before .if1 in
+    pos-of-ne-zero (if1 .left)
 
-add-i : tie.Need-add-i Inv-loop μ-loop
-add-i c = omega arith
+-- the loop, the words and k at a word's remainder, and the word
+abbrev turn : tie.After-remainder Inv-loop μ-loop → tie.At-loop Inv-loop μ-loop
+turn c = c .before .before .before
 
--- the word at hand
-abbrev turn : tie.After-remainder Inv-loop μ-loop → ℕ
-turn c = c .before .before .before .loop .i
+abbrev start : tie.At-loop Inv-loop μ-loop → tie.Start Inv-loop μ-loop
+start c = c .before .before .before .before
 
 abbrev word : tie.After-remainder Inv-loop μ-loop → ℕ
-word c = getD (c .before .before .before .before .before .before .before .args .words .now) (turn c) 0
+word c = getD (start (turn c) .args .words .now) (turn c .loop .i) 0
+
+some : (c : tie.At-loop Inv-loop μ-loop) → 0 < start c .args .k
+some c = pos-of-ne-zero (c .before .before .if1 .left)
 
 sub-if3 : tie.Need-sub-if3 Inv-loop μ-loop
-sub-if3 c = rw (c .remainder .ensures) (mod-le (word c) (c .before .before .before .before .before .before .before .args .k))
+sub-if3 c = rw (c .remainder .ensures) (mod-le (word c) (start (turn c) .args .k))
 
 cast-if3 : tie.Need-cast-if3 Inv-loop μ-loop
-cast-if3 c = omega (arith, c .before .shared-slice-known2 .given (turn c))
-
-cast-t14 : tie.Need-cast-t14 Inv-loop μ-loop
-cast-t14 c = search needs
+cast-if3 c = omega (arith, c .before .shared-slice-known2 .given (turn c .loop .i))
 
 returns-3 : tie.Need-returns-3 Inv-loop μ-loop
 returns-3 c =
-    let t = c .before in
-    let a = t .before .before .before .before .before .before .before .args in
-    let some = pos-of-ne-zero (t .before .before .before .before .before .if1 .left) in
-    rw (add-one (turn t))
-    (ap (λ (v : ℕ). Got v (suc (turn t))) (t .remainder .ensures)
-    ∙ taken-at (a .words .now) (suc (turn t)) (word t % a .k) _ (omega arith)
-    (sym (t .before .before .before .loop .inv)
-    ∙ choose-accept (a .k) (turn t) (a .words .now) (t .before .before .loop-test .taken)
-    (lt→ltb (word t) _ (run-accepted 4294967296 (a .k) (word t) some (t .before .before .before .before .if2 .left) (rw (t .remainder .ensures) at (c .if3 .taken))))))
-
-loop-less : tie.Need-loop-less Inv-loop μ-loop
-loop-less c = omega arith
+    let t = turn (c .before) in
+    let i = t .loop .i in
+    let w = word (c .before) in
+    let a = start t .args in
+    rw (add-one i)
+    (ap (λ (v : ℕ). Got v (suc i)) (c .before .remainder .ensures)
+    ∙ taken-at (a .words .now) (suc i) (w % a .k) _ (omega arith)
+    (sym (t .loop .inv) ∙ choose-accept (a .k) i (a .words .now) (c .before .before .before .loop-test .taken)
+    (lt→ltb w _ (run-accepted 4294967296 (a .k) w (some t) (t .before .if2 .left) (rw (c .before .remainder .ensures) at (c .if3 .taken))))))
 
 loop-again : tie.Need-loop-again Inv-loop μ-loop
 loop-again c =
-    let t = c .before in
-    let a = t .before .before .before .before .before .before .before .args in
-    let some = pos-of-ne-zero (t .before .before .before .before .before .if1 .left) in
-    rw (add-one (turn t))
-    (sym (choose-skip (a .k) (turn t) (a .words .now) (t .before .before .loop-test .taken)
-    (le→leb _ (word t) (run-skipped 4294967296 (a .k) (word t) some (t .before .before .before .before .if2 .left) (rw (t .remainder .ensures) at (c .if3 .left)))))
-    ∙ t .before .before .before .loop .inv)
+    let t = turn (c .before) in
+    let i = t .loop .i in
+    let w = word (c .before) in
+    let a = start t .args in
+    rw (add-one i)
+    (sym (choose-skip (a .k) i (a .words .now) (c .before .before .before .loop-test .taken)
+    (le→leb _ w (run-skipped 4294967296 (a .k) w (some t) (t .before .if2 .left) (rw (c .before .remainder .ensures) at (c .if3 .left)))))
+    ∙ t .loop .inv)
 
 returns-4 : tie.Need-returns-4 Inv-loop μ-loop
 returns-4 c =
-    let a = c .before .before .before .before .before .args in
+    let a = start (c .before) .args in
     taken-none (a .words .now) _
     (sym (c .before .loop .inv) ∙ choose-end (a .k) (c .before .loop .i) (a .words .now) (c .loop-test .left))
 
 pub uniform-below-spec : {M : Type 1} → statement M
 uniform-below-spec =
     tie.close
-    (tie.spec
-    Inv-loop
-    μ-loop
-    returns
-    returns-2
-    loop-holds
-    mul-w
-    shared-slice-read-w
-    remainder-requires
-    add-i
-    sub-if3
-    cast-if3
-    cast-t14
-    returns-3
-    loop-less
-    loop-again
-    returns-4)
+    (tie.spec Inv-loop μ-loop returns returns-2 loop-holds (λ c. omega arith) (λ c. omega arith) remainder-requires (λ c. omega arith) sub-if3
+    cast-if3 (λ c. search needs) returns-3 (λ c. omega arith) loop-again returns-4)

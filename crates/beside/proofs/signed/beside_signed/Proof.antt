@@ -1,77 +1,10 @@
--- `beside_signed` draws by the sampler of what its kind names.
-use mathlib.Core.Path.{_∙_}
-use mathlib.Core.Bool.{Bool}
-use Rattle.distr.specs.Distribution.{Distr}
-use Rattle.distr.specs.Draw.{signedDraw}
-use Rattle.signed_discrete_gaussian.specs.Lent.{lent}
-use Rattle.beside.specs.Calls.{named}
-use Rattle.beside.proofs.Making.{told-draw}
+-- `beside_signed` draws what its kind names.
 use borrow.Author.Needs.{needs}
 use Rattle.beside.proofs.signed.beside_signed.Statement.{statement}
 use Rattle.beside.proofs.signed.beside_signed.Tie as tie
 
-make-requires : tie.Need-make-requires
-make-requires c κs = search needs
-
-enum-known-sampler : tie.Need-enum-known-sampler
-enum-known-sampler c = search needs
-
-sample-signed-to-requires : tie.Need-sample-signed-to-requires
-sample-signed-to-requires c κs = search needs
-
-enum-known-sampler-2 : tie.Need-enum-known-sampler-2
-enum-known-sampler-2 c = search needs
-
-sample-signed-to-requires-2 : tie.Need-sample-signed-to-requires-2
-sample-signed-to-requires-2 c κs = search needs
-
-enum-known-number : tie.Need-enum-known-number
-enum-known-number c = search needs
-
-same-length : tie.Need-same-length
-same-length c = search needs
-
-returns : tie.Need-returns
-returns c =
-    let a = c .before .before .before .before .before .before .before .before .before .before .before .before .args in
-    let tables = lent (a .bounds .now) (a .endpoints .now) (a .heights .now) (a .curve .now) in
-    c .before .sample-signed-to .ensures
-    ∙ told-draw (λ (made : Bool) (d : Distr). signedDraw made d tables (a .words .now) (a .place) (a .output .now))
-    (a .place) (a .output .now) (named (a .kind) (a .a) (a .b) (a .p) (a .q))
-    (c .before .before .before .before .sampler .given .1) (c .before .before .before .before .before .before .make .ensures)
-
-same-length-2 : tie.Need-same-length-2
-same-length-2 c = search needs
-
-returns-2 : tie.Need-returns-2
-returns-2 c =
-    let a = c .before .before .before .before .before .before .before .before .before .before .before .before .args in
-    let tables = lent (a .bounds .now) (a .endpoints .now) (a .heights .now) (a .curve .now) in
-    c .before .sample-signed-to2 .ensures
-    ∙ told-draw (λ (made : Bool) (d : Distr). signedDraw made d tables (a .words .now) (a .place) (a .output .now))
-    (a .place) (a .output .now) (named (a .kind) (a .a) (a .b) (a .p) (a .q))
-    (c .before .before .before .before .sampler2 .given .1) (c .before .before .before .before .before .before .make .ensures)
-
-returns-3 : tie.Need-returns-3
-returns-3 c =
-    let a = c .before .before .before .before .before .before .before .before .before .args in
-    let tables = lent (a .bounds .now) (a .endpoints .now) (a .heights .now) (a .curve .now) in
-    told-draw (λ (made : Bool) (d : Distr). signedDraw made d tables (a .words .now) (a .place) (a .output .now))
-    (a .place) (a .output .now) (named (a .kind) (a .a) (a .b) (a .p) (a .q))
-    (c .before .number .given .1) (c .before .before .before .make .ensures)
-
 pub beside-signed-spec : {M : Type 1} → statement M
 beside-signed-spec =
     tie.close
-    (tie.spec
-    make-requires
-    enum-known-sampler
-    sample-signed-to-requires
-    enum-known-sampler-2
-    sample-signed-to-requires-2
-    enum-known-number
-    same-length
-    returns
-    same-length-2
-    returns-2
-    returns-3)
+    (tie.spec (λ c κs. search needs) (λ c κs. search needs) (λ c. search needs)
+    (λ c. let drawn = c .before in rw (drawn .before .before .by-kind .ensures) at (drawn .draw-signed .ensures)))

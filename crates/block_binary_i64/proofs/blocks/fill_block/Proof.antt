@@ -1,6 +1,6 @@
 -- `blocks::fill_block` writes zeros, and a one at the position where the block has it.
 use mathlib.Core.Path.{ap, _∙_}
-use Prim.Native.Nat.{_*_}
+use Prim.Native.Nat.{_*_, _<_}
 use native.Mathlib.Omega.{arith}
 use lib.Dec.{ltb}
 use lib.ListN.{length, set}
@@ -11,26 +11,12 @@ use Rattle.block_binary.proofs.Blocks.{byte-fits, position-room, position-put}
 use Rattle.block_binary_i64.proofs.blocks.fill_block.Statement.{statement}
 use Rattle.block_binary_i64.proofs.blocks.fill_block.Tie as tie
 
-clear-requires : tie.Need-clear-requires
-clear-requires c κs = search needs
-
-cast-inside : tie.Need-cast-inside
-cast-inside c = search needs
+-- where the one or the zero goes there is room
+room : (c : tie.Start) → let a = c .args in a .position * boolByte (ltb (a .position) (length (a .block .now))) < length (a .block .now)
+room c = position-room (length (c .args .block .now)) (c .args .position) (c .pre)
 
 cast-block : tie.Need-cast-block
 cast-block c = let a = c .before .before .before .args in byte-fits (ltb (a .position) (length (a .block .now)))
-
-mul-t10 : tie.Need-mul-t10
-mul-t10 c = let s = c .before .before .before in omega (arith, position-room (length (s .args .block .now)) (s .args .position) (s .pre))
-
-mul-t11 : tie.Need-mul-t11
-mul-t11 c = let s = c .before .before .before in omega (arith, position-room (length (s .args .block .now)) (s .args .position) (s .pre))
-
-slice-set-from-block : tie.Need-slice-set-from-block
-slice-set-from-block c = let s = c .before .before .before in omega (arith, position-room (length (s .args .block .now)) (s .args .position) (s .pre))
-
-same-length : tie.Need-same-length
-same-length c = search needs
 
 returns : tie.Need-returns
 returns c =
@@ -42,4 +28,6 @@ returns c =
 
 pub fill-block-spec : {M : Type 1} → statement M
 fill-block-spec =
-    tie.close (tie.spec clear-requires cast-inside cast-block mul-t10 mul-t11 slice-set-from-block same-length returns)
+    tie.close
+    (tie.spec (λ c κs. search needs) (λ c. search needs) cast-block (λ c. omega (arith, room (c .before .before .before)))
+    (λ c. omega (arith, room (c .before .before .before))) (λ c. omega (arith, room (c .before .before .before))) (λ c. search needs) returns)

@@ -24,92 +24,65 @@ any = record { «minus_one» = 0 }
 loop-holds : tie.Need-loop-holds Inv-loop μ-loop
 loop-holds c encoding = turn-start (held encoding) _ _ _ _ _ _ (c .before .before .pre .1) (omega arith) (c .before .before .pre .2)
 
-uniform-below-requires : tie.Need-uniform-below-requires Inv-loop μ-loop
-uniform-below-requires c κs = search needs
-
-enum-known-value : tie.Need-enum-known-value Inv-loop μ-loop
-enum-known-value c = search needs
-
 -- the block has room in the output
 add-end : tie.Need-add-end Inv-loop μ-loop
 add-end c =
-    let t = c .before .before .before .before .before .loop .inv any in
-    omega (arith, turn-room (mapped (heldOne any)) t (c .before .before .before .before .loop-test .taken), t .kept)
-
-mul-fill-block : tie.Need-mul-fill-block Inv-loop μ-loop
-mul-fill-block c = omega arith
-
-sub-fill-block : tie.Need-sub-fill-block Inv-loop μ-loop
-sub-fill-block c = omega arith
-
-part-fill-block-start : tie.Need-part-fill-block-start Inv-loop μ-loop
-part-fill-block-start c = omega arith
+    let test = c .before .before .before .before in
+    let turn = test .before .loop .inv any in
+    omega (arith, turn-room (mapped (heldOne any)) turn (test .loop-test .taken), turn .kept)
 
 part-fill-block-end : tie.Need-part-fill-block-end Inv-loop μ-loop
-part-fill-block-end c = turn-room (mapped (heldOne any)) (c .before .before .before .before .before .loop .inv any) (c .before .before .before .before .loop-test .taken)
+part-fill-block-end c =
+    let test = c .before .before .before .before in
+    turn-room (mapped (heldOne any)) (test .before .loop .inv any) (test .loop-test .taken)
 
 fill-block-requires : tie.Need-fill-block-requires Inv-loop μ-loop
 fill-block-requires c κs =
-    turn-some (mapped (heldOne any)) (c .before .before .before .before .before .before .loop .inv any) (c .before .before .before .before .before .before .before .before .before .pre .0)
-    (c .before .before .before .before .before .loop-test .taken)
+    let test = c .before .before .before .before .before in
+    turn-some (mapped (heldOne any)) (test .before .loop .inv any) (test .before .before .before .before .pre .0) (test .loop-test .taken)
 
 loop-less : tie.Need-loop-less Inv-loop μ-loop
-loop-less c = omega (arith, c .before .before .before .before .before .before .before .before .before .before .before .before .pre .0)
+loop-less c =
+    let test = c .before .before .before .before .before .before .before .before in
+    omega (arith, test .before .before .before .before .pre .0)
 
 loop-again : tie.Need-loop-again Inv-loop μ-loop
 loop-again c encoding =
-    turn-more (mapped (heldOne encoding)) (c .before .before .before .before .before .before .before .before .before .loop .inv encoding)
-    (c .before .before .before .before .before .before .before .before .loop-test .taken)
-    (sym (c .before .before .before .before .before .value .given .1)
-    ∙ c .before .before .before .before .before .before .before .uniform-below .ensures)
+    let chosen = c .before .before .before .before .before in
+    let test = chosen .before .before .before in
+    turn-more (mapped (heldOne encoding)) (test .before .loop .inv encoding) (test .loop-test .taken)
+    (sym (chosen .value .given .1) ∙ chosen .before .before .uniform-below .ensures)
     (c .before .before .fill-block .ensures) (c .before .output .given .1)
 
-enum-told : tie.Need-enum-told Inv-loop μ-loop
-enum-told c = search needs
-
-clear-requires : tie.Need-clear-requires Inv-loop μ-loop
-clear-requires c κs = search needs
-
 same-length : tie.Need-same-length Inv-loop μ-loop
-same-length c = c .before .before .clear .kept .0 ∙ c .before .before .before .before .before .before .before .before .loop .inv any .kept
+same-length c =
+    let cleared = c .before .before .before in
+    let turn = cleared .before .before .before .before .before .before in
+    cleared .clear .kept .0 ∙ turn .loop .inv any .kept
 
 returns : tie.Need-returns Inv-loop μ-loop
 returns c =
-    let encoding = c .before .before .before .before .before .before .before .before .before .before .before .args .encoding in
-    turn-short (mapped (heldOne encoding)) (c .before .before .before .before .before .before .before .before .loop .inv encoding)
-    (c .before .before .before .before .before .before .before .loop-test .taken)
-    (sym (c .before .before .before .before .enum-told .given .1)
-    ∙ c .before .before .before .before .before .before .uniform-below .ensures)
-    (c .before .before .clear .ensures)
+    let cleared = c .before .before .before in
+    let told = cleared .before .before in
+    let test = told .before .before .before in
+    let encoding = test .before .before .before .before .args .encoding in
+    rw (c .refused .ensures)
+    (turn-short (mapped (heldOne encoding)) (test .before .loop .inv encoding) (test .loop-test .taken)
+    (sym (told .enum-told .given .1) ∙ told .before .before .uniform-below .ensures) (cleared .clear .ensures))
 
 same-length-2 : tie.Need-same-length-2 Inv-loop μ-loop
-same-length-2 c = c .before .loop .inv any .kept
+same-length-2 c = c .before .before .loop .inv any .kept
 
 returns-2 : tie.Need-returns-2 Inv-loop μ-loop
 returns-2 c =
-    let encoding = c .before .before .before .before .args .encoding in
-    turn-end (mapped (heldOne encoding)) (c .before .loop .inv encoding) (c .before .before .before .before .pre .0) (c .loop-test .left)
+    let turn = c .before .before in
+    let start = turn .before .before .before in
+    rw (c .succeeded .ensures)
+    (turn-end (mapped (heldOne (start .args .encoding))) (turn .loop .inv (start .args .encoding)) (start .pre .0) (c .before .loop-test .left))
 
 pub draw-blocks-spec : {M : Type 1} → statement M
 draw-blocks-spec =
     tie.close
-    (tie.spec
-    Inv-loop
-    μ-loop
-    loop-holds
-    uniform-below-requires
-    enum-known-value
-    add-end
-    mul-fill-block
-    sub-fill-block
-    part-fill-block-start
-    part-fill-block-end
-    fill-block-requires
-    loop-less
-    loop-again
-    enum-told
-    clear-requires
-    same-length
-    returns
-    same-length-2
-    returns-2)
+    (tie.spec Inv-loop μ-loop loop-holds (λ c κs. search needs) (λ c. search needs) add-end (λ c. omega arith) (λ c. omega arith) (λ c. omega arith)
+    part-fill-block-end fill-block-requires loop-less loop-again (λ c. search needs) (λ c κs. search needs) (λ c κs. tt) same-length returns
+    (λ c κs. tt) same-length-2 returns-2)

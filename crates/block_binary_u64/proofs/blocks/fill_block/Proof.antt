@@ -1,6 +1,6 @@
 -- `blocks::fill_block` writes zeros, and a one at the position where the block has it.
 use mathlib.Core.Path.{ap, _∙_}
-use Prim.Native.Nat.{ℕ, _*_}
+use Prim.Native.Nat.{ℕ, _*_, _<_}
 use native.Mathlib.Omega.{arith}
 use lib.Dec.{ltb}
 use lib.ListN.{length, set}
@@ -10,26 +10,9 @@ use Rattle.block_binary.proofs.Blocks.{position-room, position-put}
 use Rattle.block_binary_u64.proofs.blocks.fill_block.Statement.{statement}
 use Rattle.block_binary_u64.proofs.blocks.fill_block.Tie as tie
 
-clear-requires : tie.Need-clear-requires
-clear-requires c κs = search needs
-
-cast-inside : tie.Need-cast-inside
-cast-inside c = search needs
-
-mul-block : tie.Need-mul-block
-mul-block c =
-    let s = c .before .before .before .before .before in omega (arith, position-room (length (s .args .block .now)) (s .args .position) (s .pre))
-
-mul-block-2 : tie.Need-mul-block-2
-mul-block-2 c =
-    let s = c .before .before .before .before .before in omega (arith, position-room (length (s .args .block .now)) (s .args .position) (s .pre))
-
-slice-write-block : tie.Need-slice-write-block
-slice-write-block c =
-    let s = c .before .before .before .before .before in omega (arith, position-room (length (s .args .block .now)) (s .args .position) (s .pre))
-
-same-length : tie.Need-same-length
-same-length c = search needs
+-- where the one or the zero goes there is room
+room : (c : tie.Start) → let a = c .args in a .position * boolByte (ltb (a .position) (length (a .block .now))) < length (a .block .now)
+room c = position-room (length (c .args .block .now)) (c .args .position) (c .pre)
 
 returns : tie.Need-returns
 returns c =
@@ -40,4 +23,8 @@ returns c =
     ∙ position-put (λ (k : ℕ). k) n (s .args .position) (s .pre)
 
 pub fill-block-spec : {M : Type 1} → statement M
-fill-block-spec = tie.close (tie.spec clear-requires cast-inside mul-block mul-block-2 slice-write-block same-length returns)
+fill-block-spec =
+    tie.close
+    (tie.spec (λ c κs. search needs) (λ c. search needs) (λ c. omega (arith, room (c .before .before .before .before .before)))
+    (λ c. omega (arith, room (c .before .before .before .before .before))) (λ c. omega (arith, room (c .before .before .before .before .before)))
+    (λ c. search needs) returns)

@@ -15,26 +15,8 @@ abbrev μ-loop : tie.MeasureT-loop
 head-requires : tie.Need-head-requires Inv-loop μ-loop
 head-requires c κs = tt
 
-loop-holds : tie.Need-loop-holds Inv-loop μ-loop
-loop-holds c = omega arith
-
-mul-signed : tie.Need-mul-signed Inv-loop μ-loop
-mul-signed c = search needs
-
-shared-slice-copy-out-signed : tie.Need-shared-slice-copy-out-signed Inv-loop μ-loop
-shared-slice-copy-out-signed c = search needs
-
 signed-requires : tie.Need-signed-requires Inv-loop μ-loop
 signed-requires c κs = tt
-
-add-i : tie.Need-add-i Inv-loop μ-loop
-add-i c = omega arith
-
-loop-less : tie.Need-loop-less Inv-loop μ-loop
-loop-less c = omega arith
-
-loop-again : tie.Need-loop-again Inv-loop μ-loop
-loop-again c = omega arith
 
 end-requires : tie.Need-end-requires Inv-loop μ-loop
 end-requires c κs = tt
@@ -45,16 +27,5 @@ returns c = tt
 pub line-spec : {M : Type 1} → statement M
 line-spec =
     tie.close
-    (tie.spec
-    Inv-loop
-    μ-loop
-    head-requires
-    loop-holds
-    mul-signed
-    shared-slice-copy-out-signed
-    signed-requires
-    add-i
-    loop-less
-    loop-again
-    end-requires
-    returns)
+    (tie.spec Inv-loop μ-loop head-requires (λ c. omega arith) (λ c. search needs) (λ c. search needs) signed-requires (λ c. omega arith)
+    (λ c. omega arith) (λ c. omega arith) end-requires returns)

@@ -4,13 +4,14 @@ use Rattle.centered_binomial.proofs.CenteredBinomialParameters.new.Tie 
 use native.Mathlib.Omega.{arith}
 use Prim.Native.Nat.{_≤_}
 use Rattle.distr.specs.Making.{errorNumber}
-use Rattle.centered_binomial.proofs.Made.{both, one-up}
+use Rattle.distr.proofs.Reading.{both-true}
+use Rattle.centered_binomial.proofs.Made.{one-up}
 use borrow.Author.Tests.{leb-true}
 use lib.Dec.{leb}
 use lib.Pow.{pow-pos}
 
 small : (c : tie.Then1) → c .before .args .eta ≤ 32
-small c = leb-true (c .before .args .eta) 32 (both (leb 1 (c .before .args .eta)) (leb (c .before .args .eta) 32) (c .if1 .taken) .1)
+small c = leb-true (c .before .args .eta) 32 (both-true (leb 1 (c .before .args .eta)) (leb (c .before .args .eta) 32) (c .if1 .taken) .1)
 
 shl-t7 : tie.Need-shl-t7
 shl-t7 c = omega (arith, small c)

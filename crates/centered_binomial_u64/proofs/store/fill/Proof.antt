@@ -1,123 +1,40 @@
--- `store::fill` writes the coefficients: after i turns the first i stand in the output.
-use mathlib.Core.Path.{_≡_, refl, ap, _∙_}
-use Prim.Native.Nat.{_-_, _≤_}
+-- `store::fill` stores the coefficients: after i turns the first i stand in the output.
+use mathlib.Core.Path.{refl, ap, _∙_}
+use Prim.Native.Nat.{_-_}
 use native.Mathlib.Omega.{arith}
-use lib.ListN.{length, length-set}
 use borrow.Author.Needs.{needs}
 use Rattle.distr.specs.CenteredBinomial.{binomialValue}
 use Rattle.output_u64.specs.Out.{heldOne}
-use Rattle.distr.proofs.Writing.{written}
-use Rattle.distr.proofs.Picking.{elements, pick-more, pick-all}
+use Rattle.numbers.proofs.WideStores.{Stored, stored-none, stored-more, stored-all}
 use Rattle.centered_binomial.proofs.Counting.{counted}
 use Rattle.centered_binomial_u64.proofs.store.fill.Statement.{statement}
 use Rattle.centered_binomial_u64.proofs.store.fill.Tie as tie
 
 abbrev Inv-loop : tie.InvT-loop
-Inv-loop output₀ encoding parameters words place n upper i₀ output i =
-    (i ≤ length output₀) × (length output ≡ length output₀)
-    × (output ≡ written (elements (λ w. heldOne encoding (binomialValue (parameters .eta) w)) words place (length output₀)) i output₀)
+Inv-loop output₀ encoding parameters words place n upper i₀ output i = Stored (λ w. heldOne encoding (binomialValue (parameters .eta) w)) words place output₀ i output
 
 abbrev μ-loop : tie.MeasureT-loop
 μ-loop output₀ encoding parameters words place n upper i₀ output i = n - i
 
-upper-mask-requires : tie.Need-upper-mask-requires Inv-loop μ-loop
-upper-mask-requires c κs = search needs
-
-loop-holds : tie.Need-loop-holds Inv-loop μ-loop
-loop-holds c = (omega arith, refl, refl)
-
-mul-at : tie.Need-mul-at Inv-loop μ-loop
-mul-at c = omega arith
-
-add-at : tie.Need-add-at Inv-loop μ-loop
-add-at c = omega arith
-
-mul-wide-of : tie.Need-mul-wide-of Inv-loop μ-loop
-mul-wide-of c = search needs
-
-shared-slice-read-wide-of : tie.Need-shared-slice-read-wide-of Inv-loop μ-loop
-shared-slice-read-wide-of c = omega arith
-
-add-wide-of : tie.Need-add-wide-of Inv-loop μ-loop
-add-wide-of c = omega arith
-
-mul-wide-of-2 : tie.Need-mul-wide-of-2 Inv-loop μ-loop
-mul-wide-of-2 c = search needs
-
-shared-slice-read-wide-of-2 : tie.Need-shared-slice-read-wide-of-2 Inv-loop μ-loop
-shared-slice-read-wide-of-2 c = omega arith
-
-wide-of-requires : tie.Need-wide-of-requires Inv-loop μ-loop
-wide-of-requires c κs = search needs
-
-ones-of-requires : tie.Need-ones-of-requires Inv-loop μ-loop
-ones-of-requires c κs = search needs
-
-difference-requires : tie.Need-difference-requires Inv-loop μ-loop
-difference-requires c κs = search needs
-
-mul-output : tie.Need-mul-output Inv-loop μ-loop
-mul-output c = search needs
-
-slice-write-output : tie.Need-slice-write-output Inv-loop μ-loop
-slice-write-output c = omega arith
-
-add-i : tie.Need-add-i Inv-loop μ-loop
-add-i c = omega arith
-
-loop-less : tie.Need-loop-less Inv-loop μ-loop
-loop-less c = omega arith
-
 -- what is stored is the coefficient of the word
 loop-again : tie.Need-loop-again Inv-loop μ-loop
 loop-again c =
-    let start = c .before .before .before .before .before .before .before .before .before .before in
-    let a = start .args in
-    let turn = c .before .before .before .before .before .before .loop in
-    let wide = c .before .before .wide-of in
-    let value = counted (a .parameters) (start .pre .made) (wide .result) (c .before .before .before .before .before .before .before .upper-mask .ensures)
-    (c .before .ones-of .ensures .0) (c .before .ones-of .ensures .1) in (
-      omega arith,
-      simp length-set (turn .inv .1),
-      rw (turn .inv .2)
-          (pick-more (λ w. heldOne (a .encoding) (binomialValue (a .parameters .eta) w)) (a .words .now) (a .place) (a .output .now) (turn .i) _ _
-          (c .before .before .before .before .before .loop-test .taken) refl
-          (c .difference .ensures ∙ ap (heldOne (a .encoding)) (value ∙ ap (binomialValue (a .parameters .eta)) (wide .ensures)))),
-    )
-
-same-length : tie.Need-same-length Inv-loop μ-loop
-same-length c = c .before .loop .inv .1
+    let turn = c .before .before .before .before .before .before in
+    let start = turn .before .before .before .before in
+    let value =
+    counted (start .args .parameters) (start .pre .made) (c .before .before .wide-word .result) (turn .before .upper-mask .ensures)
+    (c .before .ones-of .ensures .0) (c .before .ones-of .ensures .1) in
+    stored-more _ _ _ _ (turn .loop .inv) (omega arith) refl (c .before .before .wide-word .ensures)
+    (c .difference .ensures ∙ ap (heldOne (start .args .encoding)) value)
 
 returns : tie.Need-returns Inv-loop μ-loop
 returns c =
-    let start = c .before .before .before .before .before in
-    let a = start .args in
-    let turn = c .before .loop in
-    pick-all (λ w. heldOne (a .encoding) (binomialValue (a .parameters .eta) w)) (a .words .now) (a .place) (a .output .now) (turn .i)
-    (turn .output) (start .pre .enough) (omega arith) (turn .inv .2)
+    let pre = c .before .before .before .before .before .pre in
+    stored-all _ _ _ _ (c .before .loop .inv) (omega arith) (pre .enough)
 
 pub fill-spec : {M : Type 1} → statement M
 fill-spec =
     tie.close
-    (tie.spec
-    Inv-loop
-    μ-loop
-    upper-mask-requires
-    loop-holds
-    mul-at
-    add-at
-    mul-wide-of
-    shared-slice-read-wide-of
-    add-wide-of
-    mul-wide-of-2
-    shared-slice-read-wide-of-2
-    wide-of-requires
-    ones-of-requires
-    difference-requires
-    mul-output
-    slice-write-output
-    add-i
-    loop-less
-    loop-again
-    same-length
-    returns)
+    (tie.spec Inv-loop μ-loop (λ c κs. search needs) (λ c. stored-none _ _ _ _) (λ c. omega arith) (λ c. omega arith) (λ c. omega arith)
+    (λ c. omega arith) (λ c. omega arith) (λ c. omega arith) (λ c. omega arith) (λ c κs. tt) (λ c κs. tt) (λ c κs. tt) (λ c. omega arith)
+    (λ c. omega arith) (λ c. omega arith) (λ c. omega arith) loop-again (λ c. c .before .loop .inv .same-length) returns)

@@ -7,18 +7,6 @@ use Rattle.fixed_weights.proofs.Signs.{held, refilled, refilled-short}
 use Rattle.fixed_weights.proofs.choices.sign_and_place.Statement.{statement}
 use Rattle.fixed_weights.proofs.choices.sign_and_place.Tie as tie
 
-next-u32-requires : tie.Need-next-u32-requires
-next-u32-requires c κs = search needs
-
-enum-known-value : tie.Need-enum-known-value
-enum-known-value c = search needs
-
-lowest-sign-and-place-requires : tie.Need-lowest-sign-and-place-requires
-lowest-sign-and-place-requires c κs = omega arith
-
-enum-told : tie.Need-enum-told
-enum-told c = search needs
-
 lowest-sign-and-place-requires-2 : tie.Need-lowest-sign-and-place-requires-2
 lowest-sign-and-place-requires-2 c κs = pos-of-ne-zero (c .if1 .left)
 
@@ -44,12 +32,5 @@ returns-3 c =
 pub sign-and-place-spec : {M : Type 1} → statement M
 sign-and-place-spec =
     tie.close
-    (tie.spec
-    next-u32-requires
-    enum-known-value
-    lowest-sign-and-place-requires
-    enum-told
-    lowest-sign-and-place-requires-2
-    returns
-    returns-2
+    (tie.spec (λ c κs. search needs) (λ c. search needs) (λ c κs. omega arith) (λ c. search needs) lowest-sign-and-place-requires-2 returns returns-2
     returns-3)

@@ -13,12 +13,6 @@ use Rattle.fixed_weights.proofs.Planning.{plan-draws, holds-signed}
 use Rattle.fixed_weights_i64.proofs.fixed_weight.sample_fixed_hamming_weight_binary_values_to.Statement.{statement}
 use Rattle.fixed_weights_i64.proofs.fixed_weight.sample_fixed_hamming_weight_binary_values_to.Tie as tie
 
-binary-plan-requires : tie.Need-binary-plan-requires
-binary-plan-requires c κs = search needs
-
-enum-known-plan : tie.Need-enum-known-plan
-enum-known-plan c = search needs
-
 -- the function's entry, from where it has planned
 abbrev entry : tie.After-binary-plan → tie.Start
 entry planned = planned .before .before
@@ -29,17 +23,8 @@ begun : (d : tie.After-known-told)
     Begun (fixedBinaryWeight (a .hamming-weight) (length (a .output .now))) (length (a .words .now)) (a .place) (length (a .output .now)) (a .hamming-weight) (d .before .plan .given .0 .0)
 begun d = by-plan _ _ _ _ (binary-planned _ _) (d .before .before .before .binary-plan .ensures) (d .before .plan .given .1)
 
-minus-one-requires : tie.Need-minus-one-requires
-minus-one-requires c κs = search needs
-
 insert-random-values-requires : tie.Need-insert-random-values-requires
 insert-random-values-requires c κs = let g = begun (c .before .before .before) in (g .of-rule .ready, g .there)
-
-enum-known-number : tie.Need-enum-known-number
-enum-known-number c = search needs
-
-same-length : tie.Need-same-length
-same-length c = search needs
 
 returns : tie.Need-returns
 returns c =
@@ -52,12 +37,14 @@ returns c =
 
 returns-2 : tie.Need-returns-2
 returns-2 c =
-    let planned = c .before .before .before in
+    let planned = c .before .before .before .before in
     let a = entry planned .args in
-    by-number _ _ (a .words .now) (a .place) (a .hamming-weight) (a .output .now) (binaryPlan (a .hamming-weight) (length (a .output .now)))
-    (planned .binary-plan .ensures) (c .before .number .given .1)
+    rw (c .refused .ensures)
+    (by-number _ _ (a .words .now) (a .place) (a .hamming-weight) (a .output .now) (binaryPlan (a .hamming-weight) (length (a .output .now)))
+    (planned .binary-plan .ensures) (c .before .before .number .given .1))
 
 pub sample-fixed-hamming-weight-binary-values-to-spec : {M : Type 1} → statement M
 sample-fixed-hamming-weight-binary-values-to-spec =
     tie.close
-    (tie.spec binary-plan-requires enum-known-plan minus-one-requires insert-random-values-requires enum-known-number same-length returns returns-2)
+    (tie.spec (λ c κs. search needs) (λ c. search needs) (λ c κs. search needs) insert-random-values-requires (λ c. search needs)
+    (λ c κs. search needs) (λ c. search needs) returns returns-2)

@@ -14,9 +14,6 @@ use Rattle.fixed_weights.proofs.Signing.{signs-draw, all-signs}
 use Rattle.fixed_weights_i64.proofs.fixed_weight.sample_fixed_hamming_weight_ternary_values_to.Statement.{statement}
 use Rattle.fixed_weights_i64.proofs.fixed_weight.sample_fixed_hamming_weight_ternary_values_to.Tie as tie
 
-weight-number-requires : tie.Need-weight-number-requires
-weight-number-requires c κs = search needs
-
 -- the function's entry, from where it has its number
 abbrev entry : tie.After-weight-number → tie.Start
 entry judged = judged .before .before
@@ -28,13 +25,7 @@ numbered : (d : tie.After-weight-number)
 numbered d = rw (add-zero (entry d .args .hamming-weight)) at (d .weight-number .ensures)
 
 returns : tie.Need-returns
-returns c = refused _ _ _ _ _ _ (numbered (c .before)) (c .if1 .taken)
-
-sample-signs-to-requires : tie.Need-sample-signs-to-requires
-sample-signs-to-requires c κs = search needs
-
-same-length : tie.Need-same-length
-same-length c = search needs
+returns c = rw (c .refused .ensures) (refused _ _ _ _ _ _ (numbered (c .before .before)) (c .before .if1 .taken))
 
 returns-2 : tie.Need-returns-2
 returns-2 c =
@@ -50,14 +41,8 @@ good : (d : tie.Else1)
     Passed (length (a .words .now)) (a .place) (length (a .output .now)) (a .hamming-weight)
 good d = passed (numbered (d .before)) (d .if1 .left)
 
-minus-one-requires : tie.Need-minus-one-requires
-minus-one-requires c κs = search needs
-
 insert-random-signs-requires : tie.Need-insert-random-signs-requires
 insert-random-signs-requires c κs = let g = good (c .before .before .before .before) in (g .light, g .there)
-
-same-length-2 : tie.Need-same-length-2
-same-length-2 c = search needs
 
 returns-3 : tie.Need-returns-3
 returns-3 c =
@@ -72,13 +57,5 @@ returns-3 c =
 pub sample-fixed-hamming-weight-ternary-values-to-spec : {M : Type 1} → statement M
 sample-fixed-hamming-weight-ternary-values-to-spec =
     tie.close
-    (tie.spec
-    weight-number-requires
-    returns
-    sample-signs-to-requires
-    same-length
-    returns-2
-    minus-one-requires
-    insert-random-signs-requires
-    same-length-2
-    returns-3)
+    (tie.spec (λ c κs. search needs) (λ c κs. search needs) returns (λ c κs. search needs) (λ c. search needs) returns-2 (λ c κs. search needs)
+    insert-random-signs-requires (λ c. search needs) returns-3)

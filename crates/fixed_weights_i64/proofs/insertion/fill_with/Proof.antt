@@ -7,23 +7,11 @@ use mir.ValLaws.{toZ-ofZ}
 use Rattle.fixed_weights_i64.proofs.insertion.fill_with.Statement.{statement}
 use Rattle.fixed_weights_i64.proofs.insertion.fill_with.Tie as tie
 
-mul-value : tie.Need-mul-value
-mul-value c = search needs
-
-element-copy-out-value : tie.Need-element-copy-out-value
-element-copy-out-value c = search needs
-
-fill-requires : tie.Need-fill-requires
-fill-requires c κs = search needs
-
-same-length : tie.Need-same-length
-same-length c = search needs
-
 returns : tie.Need-returns
 returns c =
     let copied = c .before .before .before in
-    c .before .fill .ensures ∙ ap (replicate (length (copied .before .args .out .now))) (toZ-ofZ w64 _ (record { sfits = copied .value .given }))
+    c .before .fill .ensures ∙ ap (replicate (length (copied .before .args .output .now))) (toZ-ofZ w64 _ (record { sfits = copied .value .given }))
 
 pub fill-with-spec : {M : Type 1} → statement M
 fill-with-spec =
-    tie.close (tie.spec mul-value element-copy-out-value fill-requires same-length returns)
+    tie.close (tie.spec (λ c. search needs) (λ c. search needs) (λ c κs. search needs) (λ c. search needs) returns)

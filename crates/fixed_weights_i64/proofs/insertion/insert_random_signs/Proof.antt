@@ -44,26 +44,11 @@ drawn : (d : tie.After-known-told Inv-loop μ-loop)
     Draws (turn d .before) (Got (g .0) (g .1 .0) (g .1 .1 .0) (g .1 .1 .1 .0) (g .1 .1 .1 .1 .0))
 drawn d = sym (d .before .bit .given .1) ∙ d .before .before .before .sign-and-place .ensures
 
-fill-with-requires : tie.Need-fill-with-requires Inv-loop μ-loop
-fill-with-requires c κs = search needs
-
-sub-i : tie.Need-sub-i Inv-loop μ-loop
-sub-i c = omega arith
-
 loop-holds : tie.Need-loop-holds Inv-loop μ-loop
 loop-holds c =
     let filled = c .before in
     let pre = entry filled .pre in
     signs-start (pre .0) (pre .1) (filled .fill-with .ensures)
-
-add-sign-and-place : tie.Need-add-sign-and-place Inv-loop μ-loop
-add-sign-and-place c = omega arith
-
-sign-and-place-requires : tie.Need-sign-and-place-requires Inv-loop μ-loop
-sign-and-place-requires c κs = search needs
-
-enum-known-bit : tie.Need-enum-known-bit Inv-loop μ-loop
-enum-known-bit c = search needs
 
 insert-at-requires : tie.Need-insert-at-requires Inv-loop μ-loop
 insert-at-requires c κs =
@@ -73,23 +58,11 @@ insert-at-requires c κs =
     let d = drew (begun t .args .words .now) (l .i + 1) (l .at) (l .signs) (l .left) (drawn (c .before)) in
     (omega (arith, size), omega (arith, size, d .below), omega (arith, d .is-bit))
 
-add-i : tie.Need-add-i Inv-loop μ-loop
-add-i c = omega arith
-
-loop-less : tie.Need-loop-less Inv-loop μ-loop
-loop-less c = omega arith
-
 loop-again : tie.Need-loop-again Inv-loop μ-loop
 loop-again c =
     let stored = c .before in
     let d = stored .before .before in
     signs-next (turn d .before .loop .inv) (turn d .loop-test .taken) (drawn d) (stored .insert-at .ensures)
-
-enum-told : tie.Need-enum-told Inv-loop μ-loop
-enum-told c = search needs
-
-clear-requires : tie.Need-clear-requires Inv-loop μ-loop
-clear-requires c κs = search needs
 
 -- the turn in which a word is lacking
 abbrev last : tie.After-enum-told Inv-loop μ-loop → tie.In-loop Inv-loop μ-loop
@@ -100,40 +73,25 @@ lacking d = sym (d .enum-told .given .1) ∙ d .before .before .sign-and-place .
 
 same-length : tie.Need-same-length Inv-loop μ-loop
 same-length c =
-    let cleared = c .before in
+    let cleared = c .before .before in
     cleared .clear .kept .0 ∙ last (cleared .before .before) .before .loop .inv .turn .size
 
 returns : tie.Need-returns Inv-loop μ-loop
 returns c =
-    let cleared = c .before in
+    let cleared = c .before .before in
     let d = cleared .before .before in
-    signs-short (last d .before .loop .inv) (last d .loop-test .taken) (lacking d) (cleared .clear .ensures)
+    rw (c .refused .ensures)
+    (signs-short (last d .before .loop .inv) (last d .loop-test .taken) (lacking d) (cleared .clear .ensures))
 
 same-length-2 : tie.Need-same-length-2 Inv-loop μ-loop
-same-length-2 c = c .before .loop .inv .turn .size
+same-length-2 c = c .before .before .loop .inv .turn .size
 
 returns-2 : tie.Need-returns-2 Inv-loop μ-loop
-returns-2 c = signs-done (c .before .loop .inv) (c .loop-test .left)
+returns-2 c = rw (c .succeeded .ensures) (signs-done (c .before .before .loop .inv) (c .before .loop-test .left))
 
 pub insert-random-signs-spec : {M : Type 1} → statement M
 insert-random-signs-spec =
     tie.close
-    (tie.spec
-    Inv-loop
-    μ-loop
-    fill-with-requires
-    sub-i
-    loop-holds
-    add-sign-and-place
-    sign-and-place-requires
-    enum-known-bit
-    insert-at-requires
-    add-i
-    loop-less
-    loop-again
-    enum-told
-    clear-requires
-    same-length
-    returns
-    same-length-2
-    returns-2)
+    (tie.spec Inv-loop μ-loop (λ c κs. search needs) (λ c. omega arith) loop-holds (λ c. omega arith) (λ c κs. search needs) (λ c. search needs)
+    insert-at-requires (λ c. omega arith) (λ c. omega arith) loop-again (λ c. search needs) (λ c κs. search needs) (λ c κs. search needs) same-length
+    returns (λ c κs. search needs) same-length-2 returns-2)

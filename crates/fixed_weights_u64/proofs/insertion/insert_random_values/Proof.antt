@@ -24,7 +24,9 @@ abbrev μ-loop : tie.MeasureT-loop
 
 -- the function's entry, from where the output is filled and from the loop's head
 abbrev entry : tie.After-fill-with Inv-loop μ-loop → tie.Start Inv-loop μ-loop
-entry filled = filled .before .before .before .before .before
+entry filled =
+    let before = filled .before .before .before .before .before in
+    before
 
 abbrev begun : tie.At-loop Inv-loop μ-loop → tie.Start Inv-loop μ-loop
 begun t = entry (t .before .before .before .before)
@@ -42,31 +44,13 @@ turn d = d .before .before .before .before
 drawn : (d : tie.After-known-told Inv-loop μ-loop) → let g = d .before .value .given .0 in Draws (turn d .before) (Got (g .0) (g .1 .0))
 drawn d = sym (d .before .value .given .1) ∙ d .before .before .before .uniform-below .ensures
 
-sub-split : tie.Need-sub-split Inv-loop μ-loop
-sub-split c = omega arith
-
 fill-with-requires : tie.Need-fill-with-requires Inv-loop μ-loop
 fill-with-requires c κs = let known = c .before .before in known .before .before .pre .0 .fill-code
-
-sub-i : tie.Need-sub-i Inv-loop μ-loop
-sub-i c = omega arith
 
 loop-holds : tie.Need-loop-holds Inv-loop μ-loop
 loop-holds c =
     let filled = c .before .before .before in
     inserted-start (omega arith) (omega arith) (entry filled .pre .1) (filled .fill-with .ensures)
-
-add-uniform-below : tie.Need-add-uniform-below Inv-loop μ-loop
-add-uniform-below c = omega arith
-
-uniform-below-requires : tie.Need-uniform-below-requires Inv-loop μ-loop
-uniform-below-requires c κs = search needs
-
-enum-known-value : tie.Need-enum-known-value Inv-loop μ-loop
-enum-known-value c = search needs
-
-code-at-requires : tie.Need-code-at-requires Inv-loop μ-loop
-code-at-requires c κs = search needs
 
 insert-at-requires : tie.Need-insert-at-requires Inv-loop μ-loop
 insert-at-requires c κs =
@@ -81,24 +65,12 @@ insert-at-requires c κs =
       rw (c .before .code-at .ensures) (cond-below (ltb (t .loop .i) (length (a .output .now) - a .plan .seconds)) (ready .first-code) (ready .second-code)),
     )
 
-add-i : tie.Need-add-i Inv-loop μ-loop
-add-i c = omega arith
-
-loop-less : tie.Need-loop-less Inv-loop μ-loop
-loop-less c = omega arith
-
 loop-again : tie.Need-loop-again Inv-loop μ-loop
 loop-again c =
     let stored = c .before .before in
     let coded = stored .before .before in
     let d = coded .before in
     inserted-next (turn d .before .loop .inv) (turn d .loop-test .taken) (drawn d) (coded .code-at .ensures) (stored .insert-at .ensures)
-
-enum-told : tie.Need-enum-told Inv-loop μ-loop
-enum-told c = search needs
-
-clear-requires : tie.Need-clear-requires Inv-loop μ-loop
-clear-requires c κs = search needs
 
 -- the turn in which a word is lacking
 abbrev last : tie.After-enum-told Inv-loop μ-loop → tie.In-loop Inv-loop μ-loop
@@ -109,43 +81,26 @@ lacking d = sym (d .enum-told .given .1) ∙ d .before .before .uniform-below .e
 
 same-length : tie.Need-same-length Inv-loop μ-loop
 same-length c =
-    let cleared = c .before .before in
+    let cleared = c .before .before .before in
     cleared .clear .kept .0 ∙ last (cleared .before .before) .before .loop .inv .turn .size
 
 returns : tie.Need-returns Inv-loop μ-loop
 returns c =
-    let cleared = c .before .before in
+    let cleared = c .before .before .before in
     let d = cleared .before .before in
     let t = last d .before in
-    plan-short (begun t .args .plan) (begun t .pre .0 .room) (t .loop .inv) (last d .loop-test .taken) (lacking d) (cleared .clear .ensures)
+    rw (c .refused .ensures)
+    (plan-short (begun t .args .plan) (begun t .pre .0 .room) (t .loop .inv) (last d .loop-test .taken) (lacking d) (cleared .clear .ensures))
 
 same-length-2 : tie.Need-same-length-2 Inv-loop μ-loop
-same-length-2 c = c .before .loop .inv .turn .size
+same-length-2 c = c .before .before .loop .inv .turn .size
 
 returns-2 : tie.Need-returns-2 Inv-loop μ-loop
-returns-2 c = let t = c .before in plan-done (begun t .args .plan) (begun t .pre .0 .room) (t .loop .inv) (c .loop-test .left)
+returns-2 c = let t = c .before .before in rw (c .succeeded .ensures) (plan-done (begun t .args .plan) (begun t .pre .0 .room) (t .loop .inv) (c .before .loop-test .left))
 
 pub insert-random-values-spec : {M : Type 1} → statement M
 insert-random-values-spec =
     tie.close
-    (tie.spec
-    Inv-loop
-    μ-loop
-    sub-split
-    fill-with-requires
-    sub-i
-    loop-holds
-    add-uniform-below
-    uniform-below-requires
-    enum-known-value
-    code-at-requires
-    insert-at-requires
-    add-i
-    loop-less
-    loop-again
-    enum-told
-    clear-requires
-    same-length
-    returns
-    same-length-2
-    returns-2)
+    (tie.spec Inv-loop μ-loop (λ c. omega arith) fill-with-requires (λ c. omega arith) loop-holds (λ c. omega arith) (λ c κs. search needs)
+    (λ c. search needs) (λ c κs. search needs) insert-at-requires (λ c. omega arith) (λ c. omega arith) loop-again (λ c. search needs)
+    (λ c κs. search needs) (λ c κs. search needs) same-length returns (λ c κs. search needs) same-length-2 returns-2)

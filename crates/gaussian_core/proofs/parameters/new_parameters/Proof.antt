@@ -9,19 +9,14 @@ use lib.Ieee.Positive.{num, den, own-value}
 use borrow.Author.Needs.{needs}
 use borrow.Author.Tests.{not-true}
 use Rattle.distr.specs.Gaussian.{support}
-use Rattle.distr.specs.Making.{badDeviation, supportLimit}
+use Rattle.distr.specs.Constants.{supportLimit}
+use Rattle.distr.specs.Making.{badDeviation}
 use Rattle.probability.proofs.Truncating.{minusOne, power, truncated, above-minus-one}
 use Rattle.gaussian_core.specs.Made.{madeParameters}
 use Rattle.gaussian_core.proofs.Support.{product, product-positive, not-below-power, is-so}
 use Rattle.gaussian_core.proofs.Made.{made-large, made-small}
 use Rattle.gaussian_core.proofs.parameters.new_parameters.Statement.{statement}
 use Rattle.gaussian_core.proofs.parameters.new_parameters.Tie as tie
-
-bad-deviation-requires : tie.Need-bad-deviation-requires
-bad-deviation-requires c κs = search needs
-
-refuse-requires : tie.Need-refuse-requires
-refuse-requires c κs = search needs
 
 returns : tie.Need-returns
 unfolding madeParameters
@@ -30,9 +25,6 @@ returns c = rw (c .refuse .ensures, ← c .before .before .bad-deviation .ensure
 -- After the first test the deviation is an accepted one.
 accepted : (c : tie.Else1) → badDeviation (c .before .before .args .standard-deviation) ≡ false
 accepted c = sym (c .before .bad-deviation .ensures) ∙ c .if1 .left
-
-refuse-requires-2 : tie.Need-refuse-requires-2
-refuse-requires-2 c κs = search needs
 
 returns-2 : tie.Need-returns-2
 unfolding ofBits round
@@ -56,18 +48,12 @@ truncating-f64-to-u64-requires : tie.Need-truncating-f64-to-u64-requires
 unfolding ofBits round
 truncating-f64-to-u64-requires c κs = (above c, below c)
 
-at-least-one-requires : tie.Need-at-least-one-requires
-at-least-one-requires c κs = search needs
-
 -- What the code compares is the support.
 supported : (c : tie.After-at-least-one) → c .at-least-one .result ≡ support (c .before .before .before .before .before .args .standard-deviation)
 unfolding ofBits round
 supported c =
     c .at-least-one .ensures
     ∙ ap (max 1) (c .before .truncating-f64-to-u64 .ensures ∙ truncated 64 _ (above (c .before .before)) (below (c .before .before)))
-
-refuse-requires-3 : tie.Need-refuse-requires-3
-refuse-requires-3 c κs = search needs
 
 returns-3 : tie.Need-returns-3
 returns-3 c =
@@ -83,14 +69,5 @@ returns-4 c =
 pub new-parameters-spec : {M : Type 1} → statement M
 new-parameters-spec =
     tie.close
-    (tie.spec
-    bad-deviation-requires
-    refuse-requires
-    returns
-    refuse-requires-2
-    returns-2
-    truncating-f64-to-u64-requires
-    at-least-one-requires
-    refuse-requires-3
-    returns-3
-    returns-4)
+    (tie.spec (λ c κs. search needs) (λ c κs. search needs) returns (λ c κs. search needs) returns-2 truncating-f64-to-u64-requires
+    (λ c κs. search needs) (λ c κs. search needs) returns-3 returns-4)

@@ -12,49 +12,8 @@ Inv-loop name values i₀ i = i ≤ length values
 abbrev μ-loop : tie.MeasureT-loop
 μ-loop name values i₀ i = length values - i
 
-head-requires : tie.Need-head-requires Inv-loop μ-loop
-head-requires c κs = tt
-
-loop-holds : tie.Need-loop-holds Inv-loop μ-loop
-loop-holds c = omega arith
-
-mul-signed : tie.Need-mul-signed Inv-loop μ-loop
-mul-signed c = search needs
-
-shared-slice-copy-out-signed : tie.Need-shared-slice-copy-out-signed Inv-loop μ-loop
-shared-slice-copy-out-signed c = search needs
-
-signed-requires : tie.Need-signed-requires Inv-loop μ-loop
-signed-requires c κs = tt
-
-add-i : tie.Need-add-i Inv-loop μ-loop
-add-i c = omega arith
-
-loop-less : tie.Need-loop-less Inv-loop μ-loop
-loop-less c = omega arith
-
-loop-again : tie.Need-loop-again Inv-loop μ-loop
-loop-again c = omega arith
-
-end-requires : tie.Need-end-requires Inv-loop μ-loop
-end-requires c κs = tt
-
-returns : tie.Need-returns Inv-loop μ-loop
-returns c = tt
-
 pub signed-line-spec : {M : Type 1} → statement M
 signed-line-spec =
     tie.close
-    (tie.spec
-    Inv-loop
-    μ-loop
-    head-requires
-    loop-holds
-    mul-signed
-    shared-slice-copy-out-signed
-    signed-requires
-    add-i
-    loop-less
-    loop-again
-    end-requires
-    returns)
+    (tie.spec Inv-loop μ-loop (λ c κs. tt) (λ c. omega arith) (λ c. search needs) (λ c. search needs) (λ c κs. tt) (λ c. omega arith)
+    (λ c. omega arith) (λ c. omega arith) (λ c κs. tt) (λ c. tt))

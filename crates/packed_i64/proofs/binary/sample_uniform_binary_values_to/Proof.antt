@@ -10,35 +10,16 @@ use Rattle.packed.proofs.Deciding.{below-two}
 use Rattle.packed_i64.proofs.binary.sample_uniform_binary_values_to.Statement.{statement}
 use Rattle.packed_i64.proofs.binary.sample_uniform_binary_values_to.Tie as tie
 
-bits-requires : tie.Need-bits-requires
-bits-requires c κs = search needs
-
-binary-words-requires : tie.Need-binary-words-requires
-binary-words-requires c κs = search needs
-
-slice-aggregate-draw : tie.Need-slice-aggregate-draw
-slice-aggregate-draw c = search needs
-
 draw-requires : tie.Need-draw-requires
 draw-requires c κs = (made-paired (pos 0) (pos 0 ∷ pos 1 ∷ []) (omega arith) (c .before .before .before .bits .ensures), omega arith)
-
-same-length : tie.Need-same-length
-same-length c = search needs
 
 returns : tie.Need-returns
 returns c =
     let called = c .before in
     rw (called .before .before .before .binary-words .ensures) at
-    (called .draw .ensures .serves (λ cs. cs) (λ x. x) pos (λ cs. sym (map-id cs)) refl
+    (called .draw .ensures .draws (λ cs. cs) (λ x. x) pos (λ cs. sym (map-id cs)) refl
     (made-agrees (pos 0) (pos 0 ∷ pos 1 ∷ []) (omega arith) (called .before .before .before .before .bits .ensures) _ (below-two _ refl refl)))
 
 pub sample-uniform-binary-values-to-spec : {M : Type 1} → statement M
 sample-uniform-binary-values-to-spec =
-    tie.close
-    (tie.spec
-    bits-requires
-    binary-words-requires
-    slice-aggregate-draw
-    draw-requires
-    same-length
-    returns)
+    tie.close (tie.spec (λ c κs. search needs) (λ c κs. search needs) (λ c. search needs) draw-requires (λ c. search needs) returns)

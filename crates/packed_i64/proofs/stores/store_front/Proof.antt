@@ -14,32 +14,11 @@ Inv-loop out₀ at part count k₀ out k = (k ≤ count) × Copied out₀ at par
 abbrev μ-loop : tie.MeasureT-loop
 μ-loop out₀ at part count k₀ out k = count - k
 
-sub-count : tie.Need-sub-count Inv-loop μ-loop
-sub-count c = omega arith
-
 loop-holds : tie.Need-loop-holds Inv-loop μ-loop
 loop-holds c = (omega arith, copied-none _ _ _ (c .pre .0))
 
-mul-value : tie.Need-mul-value Inv-loop μ-loop
-mul-value c = omega arith
-
-shared-slice-copy-out-value : tie.Need-shared-slice-copy-out-value Inv-loop μ-loop
-shared-slice-copy-out-value c = omega arith
-
-add-value : tie.Need-add-value Inv-loop μ-loop
-add-value c = omega arith
-
-mul-value-2 : tie.Need-mul-value-2 Inv-loop μ-loop
-mul-value-2 c = omega arith
-
 slice-set-from-value : tie.Need-slice-set-from-value Inv-loop μ-loop
 slice-set-from-value c = omega (arith, copied-length _ _ _ (c .before .before .loop .inv .1))
-
-add-k : tie.Need-add-k Inv-loop μ-loop
-add-k c = omega arith
-
-loop-less : tie.Need-loop-less Inv-loop μ-loop
-loop-less c = omega arith
 
 loop-again : tie.Need-loop-again Inv-loop μ-loop
 loop-again c = (omega arith, rw (toZ-ofZ (record { sfits = c .value .given })) (copied-more _ _ _ (pos 0) (omega arith) (omega arith) (c .before .before .loop .inv .1)))
@@ -53,18 +32,5 @@ returns c = rw (le-antisymm (c .before .loop .inv .0) (c .loop-test .left)) at (
 pub store-front-spec : {M : Type 1} → statement M
 store-front-spec =
     tie.close
-    (tie.spec
-    Inv-loop
-    μ-loop
-    sub-count
-    loop-holds
-    mul-value
-    shared-slice-copy-out-value
-    add-value
-    mul-value-2
-    slice-set-from-value
-    add-k
-    loop-less
-    loop-again
-    same-length
-    returns)
+    (tie.spec Inv-loop μ-loop (λ c. omega arith) loop-holds (λ c. omega arith) (λ c. omega arith) (λ c. omega arith) (λ c. omega arith)
+    slice-set-from-value (λ c. omega arith) (λ c. omega arith) loop-again same-length returns)

@@ -11,42 +11,20 @@ use Rattle.packed.proofs.Deciding.{below-four}
 use Rattle.packed_i64.proofs.ternary.sample_sparse_ternary_values_to.Statement.{statement}
 use Rattle.packed_i64.proofs.ternary.sample_sparse_ternary_values_to.Tie as tie
 
-minus-one-requires : tie.Need-minus-one-requires
-minus-one-requires c κs = search needs
-
-groups-requires : tie.Need-groups-requires
-groups-requires c κs = search needs
-
-sparse-words-requires : tie.Need-sparse-words-requires
-sparse-words-requires c κs = search needs
-
-slice-aggregate-draw : tie.Need-slice-aggregate-draw
-slice-aggregate-draw c = search needs
-
 draw-requires : tie.Need-draw-requires
 draw-requires c κs =
     let made = c .before .before .before in
     (made-paired (pos 0) (pos 0 ∷ pos 0 ∷ pos 1 ∷ negsuc 0 ∷ []) (omega arith) (rw (made .before .minus-one .ensures) at (made .groups .ensures)), omega arith)
-
-same-length : tie.Need-same-length
-same-length c = search needs
 
 returns : tie.Need-returns
 returns c =
     let called = c .before in
     let made = called .before .before .before .before in
     rw (called .before .before .before .sparse-words .ensures) at
-    (called .draw .ensures .serves (λ cs. cs) (λ (v : ℤ). v) sparseValue (λ cs. sym (map-id cs)) refl
+    (called .draw .ensures .draws (λ cs. cs) (λ (v : ℤ). v) sparseValue (λ cs. sym (map-id cs)) refl
     (made-agrees (pos 0) (pos 0 ∷ pos 0 ∷ pos 1 ∷ negsuc 0 ∷ []) (omega arith) (rw (made .before .minus-one .ensures) at (made .groups .ensures)) _ (below-four _ refl refl refl refl)))
 
 pub sample-sparse-ternary-values-to-spec : {M : Type 1} → statement M
 sample-sparse-ternary-values-to-spec =
     tie.close
-    (tie.spec
-    minus-one-requires
-    groups-requires
-    sparse-words-requires
-    slice-aggregate-draw
-    draw-requires
-    same-length
-    returns)
+    (tie.spec (λ c κs. search needs) (λ c κs. search needs) (λ c κs. search needs) (λ c. search needs) draw-requires (λ c. search needs) returns)

@@ -10,36 +10,17 @@ use Rattle.packed.proofs.Deciding.{below-two}
 use Rattle.packed_u64.proofs.binary.sample_uniform_binary_values_to.Statement.{statement}
 use Rattle.packed_u64.proofs.binary.sample_uniform_binary_values_to.Tie as tie
 
-bits-requires : tie.Need-bits-requires
-bits-requires c κs = search needs
-
-binary-words-requires : tie.Need-binary-words-requires
-binary-words-requires c κs = search needs
-
-slice-aggregate-draw : tie.Need-slice-aggregate-draw
-slice-aggregate-draw c = search needs
-
 draw-requires : tie.Need-draw-requires
 draw-requires c κs = (made-paired 0 (0 ∷ 1 ∷ []) (omega arith) (c .before .before .before .bits .ensures), omega arith)
-
-same-length : tie.Need-same-length
-same-length c = search needs
 
 returns : tie.Need-returns
 returns c =
     let called = c .before .before in
     let encoding = called .before .before .before .before .before .before .before .args .encoding in
     rw (called .before .before .before .binary-words .ensures) at
-    (called .draw .ensures .serves (held encoding) (heldOne encoding) pos (λ cs. refl) refl
+    (called .draw .ensures .draws (held encoding) (heldOne encoding) pos (λ cs. refl) refl
     (made-agrees 0 (0 ∷ 1 ∷ []) (omega arith) (called .before .before .before .before .bits .ensures) _ (below-two _ refl refl)))
 
 pub sample-uniform-binary-values-to-spec : {M : Type 1} → statement M
 sample-uniform-binary-values-to-spec =
-    tie.close
-    (tie.spec
-    bits-requires
-    binary-words-requires
-    slice-aggregate-draw
-    draw-requires
-    same-length
-    returns)
+    tie.close (tie.spec (λ c κs. search needs) (λ c κs. search needs) (λ c. search needs) draw-requires (λ c. search needs) returns)

@@ -11,26 +11,11 @@ use Rattle.packed.proofs.Deciding.{below-four}
 use Rattle.packed_u64.proofs.ternary.sample_sparse_ternary_values_to.Statement.{statement}
 use Rattle.packed_u64.proofs.ternary.sample_sparse_ternary_values_to.Tie as tie
 
-minus-one-requires : tie.Need-minus-one-requires
-minus-one-requires c κs = search needs
-
-groups-requires : tie.Need-groups-requires
-groups-requires c κs = search needs
-
-sparse-words-requires : tie.Need-sparse-words-requires
-sparse-words-requires c κs = search needs
-
-slice-aggregate-draw : tie.Need-slice-aggregate-draw
-slice-aggregate-draw c = search needs
-
 draw-requires : tie.Need-draw-requires
 draw-requires c κs =
     let made = c .before .before .before in
     let minus = made .before .minus-one .result in
     (made-paired 0 (0 ∷ 0 ∷ 1 ∷ minus ∷ []) (omega arith) (made .groups .ensures), omega arith)
-
-same-length : tie.Need-same-length
-same-length c = search needs
 
 returns : tie.Need-returns
 returns c =
@@ -39,17 +24,10 @@ returns c =
     let encoding = made .before .before .before .before .args .encoding in
     let minus = heldOne encoding (negsuc 0) in
     rw (called .before .before .before .sparse-words .ensures) at
-    (called .draw .ensures .serves (held encoding) (heldOne encoding) sparseValue (λ cs. refl) refl
+    (called .draw .ensures .draws (held encoding) (heldOne encoding) sparseValue (λ cs. refl) refl
     (made-agrees 0 (0 ∷ 0 ∷ 1 ∷ minus ∷ []) (omega arith) (rw (made .before .minus-one .ensures) at (made .groups .ensures)) _ (below-four _ refl refl refl refl)))
 
 pub sample-sparse-ternary-values-to-spec : {M : Type 1} → statement M
 sample-sparse-ternary-values-to-spec =
     tie.close
-    (tie.spec
-    minus-one-requires
-    groups-requires
-    sparse-words-requires
-    slice-aggregate-draw
-    draw-requires
-    same-length
-    returns)
+    (tie.spec (λ c κs. search needs) (λ c κs. search needs) (λ c κs. search needs) (λ c. search needs) draw-requires (λ c. search needs) returns)

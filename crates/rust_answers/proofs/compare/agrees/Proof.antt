@@ -41,50 +41,26 @@ returns c =
     let a = c .before .before .before .args in
     sym (short (a .stored .now) _ (a .number) (a .place) (c .if1 .taken))
 
-shared-slice-read-begins : tie.Need-shared-slice-read-begins
-shared-slice-read-begins c = search needs
-
-shared-slice-read-begins-2 : tie.Need-shared-slice-read-begins-2
-shared-slice-read-begins-2 c = search needs
-
-sub-tail : tie.Need-sub-tail
-sub-tail c = search needs
-
-part-tail-start : tie.Need-part-tail-start
-part-tail-start c = search needs
-
-part-tail-end : tie.Need-part-tail-end
-part-tail-end c = search needs
-
 returns-2 : tie.Need-returns-2
 unfolding answerLine
 returns-2 c =
+    let if1 = c .before .before .before .before .if1 in
     let a = c .before .before .before .before .before .before .before .args in
     let s = a .stored .now in
     rw (ne-eqb (a .number) 0 (c .if2 .taken), tail s, none (drop 2 s))
-    (joined s [] (a .number) (a .place) (c .before .before .before .before .if1 .left))
-
-is-shown-requires : tie.Need-is-shown-requires
-is-shown-requires c κs = search needs
+    (joined s [] (a .number) (a .place) (if1 .left))
 
 returns-3 : tie.Need-returns-3
 unfolding answerLine
 returns-3 c =
+    let if1 = c .before .before .before .before .before .if1 in
     let a = c .before .before .before .before .before .before .before .before .args in
     let s = a .stored .now in
     rw (eq-eqb (a .number) 0 (c .before .if2 .left), c .is-shown .ensures, tail s)
-    (joined s (shown (a .offset) (a .output .now)) (a .number) (a .place) (c .before .before .before .before .before .if1 .left))
+    (joined s (shown (a .offset) (a .output .now)) (a .number) (a .place) (if1 .left))
 
 pub agrees-spec : {M : Type 1} → statement M
 agrees-spec =
     tie.close
-    (tie.spec
-    returns
-    shared-slice-read-begins
-    shared-slice-read-begins-2
-    sub-tail
-    part-tail-start
-    part-tail-end
-    returns-2
-    is-shown-requires
-    returns-3)
+    (tie.spec returns (λ c. search needs) (λ c. search needs) (λ c. search needs) (λ c. search needs) (λ c. search needs) returns-2
+    (λ c κs. search needs) returns-3)

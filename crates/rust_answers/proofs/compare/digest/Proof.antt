@@ -19,21 +19,6 @@ abbrev μ-loop : tie.MeasureT-loop
 loop-holds : tie.Need-loop-holds Inv-loop μ-loop
 loop-holds c = (omega arith, refl)
 
-mul-digest-with : tie.Need-mul-digest-with Inv-loop μ-loop
-mul-digest-with c = search needs
-
-shared-slice-read-digest-with : tie.Need-shared-slice-read-digest-with Inv-loop μ-loop
-shared-slice-read-digest-with c = search needs
-
-digest-with-requires : tie.Need-digest-with-requires Inv-loop μ-loop
-digest-with-requires c κs = search needs
-
-add-i : tie.Need-add-i Inv-loop μ-loop
-add-i c = search needs
-
-loop-less : tie.Need-loop-less Inv-loop μ-loop
-loop-less c = search needs
-
 loop-again : tie.Need-loop-again Inv-loop μ-loop
 unfolding digestOf
 loop-again c =
@@ -54,14 +39,5 @@ returns c =
 pub digest-spec : {M : Type 1} → statement M
 digest-spec =
     tie.close
-    (tie.spec
-    Inv-loop
-    μ-loop
-    loop-holds
-    mul-digest-with
-    shared-slice-read-digest-with
-    digest-with-requires
-    add-i
-    loop-less
-    loop-again
-    returns)
+    (tie.spec Inv-loop μ-loop loop-holds (λ c. search needs) (λ c. search needs) (λ c κs. search needs) (λ c. search needs) (λ c. search needs)
+    loop-again returns)

@@ -8,21 +8,9 @@ use borrow.Author.Needs.{needs}
 use Rattle.rust_answers.proofs.compare.is_shown.Statement.{statement}
 use Rattle.rust_answers.proofs.compare.is_shown.Tie as tie
 
-same-requires : tie.Need-same-requires
-same-requires c κs = search needs
-
 returns : tie.Need-returns
 unfolding shown
 returns c = rw (le-leb _ _ (c .before .if1 .taken)) (c .same .ensures)
-
-digest-requires : tie.Need-digest-requires
-digest-requires c κs = search needs
-
-slice-aggregate-same : tie.Need-slice-aggregate-same
-slice-aggregate-same c = search needs
-
-same-requires-2 : tie.Need-same-requires-2
-same-requires-2 c κs = search needs
 
 returns-2 : tie.Need-returns-2
 unfolding shown
@@ -33,5 +21,4 @@ returns-2 c =
 
 pub is-shown-spec : {M : Type 1} → statement M
 is-shown-spec =
-    tie.close
-    (tie.spec same-requires returns digest-requires slice-aggregate-same same-requires-2 returns-2)
+    tie.close (tie.spec (λ c κs. search needs) returns (λ c κs. search needs) (λ c. search needs) (λ c κs. search needs) returns-2)

@@ -9,21 +9,16 @@ use Rattle.secret_key_method.proofs.prepare.block_size_number.Tie as ti
 returns : tie.Need-returns
 returns c = rw (c .if1 .taken)
 
-enum-told : tie.Need-enum-told
-enum-told c = search needs
-
-enum-told-2 : tie.Need-enum-told-2
-enum-told-2 c = search needs
-
 returns-2 : tie.Need-returns-2
 returns-2 c = rw (c .before .enum-told .given .1, c .if2 .taken)
 
 returns-3 : tie.Need-returns-3
 returns-3 c =
+    let args = c .before .before .before .before .args in
     rw (
       c .before .enum-told .given .1,
       ne-eqb _ _ (c .before .before .before .if1 .left),
-      le-ltb (2 ^ 64 - 1) (suc (c .before .before .before .before .args .block-size)) (omega arith),
+      le-ltb (2 ^ 64 - 1) (suc (args .block-size)) (omega arith),
     )
 
 returns-4 : tie.Need-returns-4
@@ -36,4 +31,4 @@ returns-4 c =
 
 pub block-size-number-spec : {M : Type 1} → statement M
 block-size-number-spec =
-    tie.close (tie.spec returns enum-told enum-told-2 returns-2 returns-3 returns-4)
+    tie.close (tie.spec returns (λ c. search needs) (λ c. search needs) returns-2 returns-3 returns-4)

@@ -6,66 +6,6 @@ use borrow.Author.Needs.{needs}
 use Rattle.secret_key_method.proofs.prepare.prepare.Statement.{statement}
 use Rattle.secret_key_method.proofs.prepare.prepare.Tie as tie
 
-enum-told : tie.Need-enum-told
-enum-told c = search needs
-
-judged-requires : tie.Need-judged-requires
-judged-requires c κs = search needs
-
-enum-known-distr : tie.Need-enum-known-distr
-enum-known-distr c = search needs
-
-prepare-binary-requires : tie.Need-prepare-binary-requires
-prepare-binary-requires c κs = search needs
-
-enum-told-2 : tie.Need-enum-told-2
-enum-told-2 c = search needs
-
-judged-requires-2 : tie.Need-judged-requires-2
-judged-requires-2 c κs = search needs
-
-enum-told-3 : tie.Need-enum-told-3
-enum-told-3 c = search needs
-
-judged-requires-3 : tie.Need-judged-requires-3
-judged-requires-3 c κs = search needs
-
-enum-known-distr-2 : tie.Need-enum-known-distr-2
-enum-known-distr-2 c = search needs
-
-prepare-ternary-requires : tie.Need-prepare-ternary-requires
-prepare-ternary-requires c κs = search needs
-
-enum-known-distr-3 : tie.Need-enum-known-distr-3
-enum-known-distr-3 c = search needs
-
-judged-requires-4 : tie.Need-judged-requires-4
-judged-requires-4 c κs = search needs
-
-enum-known-distr-4 : tie.Need-enum-known-distr-4
-enum-known-distr-4 c = search needs
-
-prepare-blocks-requires : tie.Need-prepare-blocks-requires
-prepare-blocks-requires c κs = search needs
-
-enum-known-distr-5 : tie.Need-enum-known-distr-5
-enum-known-distr-5 c = search needs
-
-judged-requires-5 : tie.Need-judged-requires-5
-judged-requires-5 c κs = search needs
-
-enum-known-distr-6 : tie.Need-enum-known-distr-6
-enum-known-distr-6 c = search needs
-
-judged-requires-6 : tie.Need-judged-requires-6
-judged-requires-6 c κs = search needs
-
-enum-known-distr-7 : tie.Need-enum-known-distr-7
-enum-known-distr-7 c = search needs
-
-prepare-gaussian-requires : tie.Need-prepare-gaussian-requires
-prepare-gaussian-requires c κs = search needs
-
 returns : tie.Need-returns
 unfolding secretNumber prepared
 returns c = c .judged .ensures ∙ ap preparing (sym (c .before .enum-told .given .1))
@@ -105,34 +45,7 @@ returns-10 c = c .prepare-gaussian .ensures ∙ ap preparing (sym (c .before .be
 pub prepare-spec : {M : Type 1} → statement M
 prepare-spec =
     tie.close
-    (tie.spec
-    enum-told
-    judged-requires
-    enum-known-distr
-    prepare-binary-requires
-    enum-told-2
-    judged-requires-2
-    enum-told-3
-    judged-requires-3
-    enum-known-distr-2
-    prepare-ternary-requires
-    enum-known-distr-3
-    judged-requires-4
-    enum-known-distr-4
-    prepare-blocks-requires
-    enum-known-distr-5
-    judged-requires-5
-    enum-known-distr-6
-    judged-requires-6
-    enum-known-distr-7
-    prepare-gaussian-requires
-    returns
-    returns-2
-    returns-3
-    returns-4
-    returns-5
-    returns-6
-    returns-7
-    returns-8
-    returns-9
-    returns-10)
+    (tie.spec (λ c. search needs) (λ c κs. search needs) (λ c. search needs) (λ c κs. search needs) (λ c. search needs) (λ c κs. search needs)
+    (λ c. search needs) (λ c κs. search needs) (λ c. search needs) (λ c κs. search needs) (λ c. search needs) (λ c κs. search needs)
+    (λ c. search needs) (λ c κs. search needs) (λ c. search needs) (λ c κs. search needs) (λ c. search needs) (λ c κs. search needs)
+    (λ c. search needs) (λ c κs. search needs) returns returns-2 returns-3 returns-4 returns-5 returns-6 returns-7 returns-8 returns-9 returns-10)

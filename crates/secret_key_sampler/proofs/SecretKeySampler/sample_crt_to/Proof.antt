@@ -1,54 +1,24 @@
--- `SecretKeySampler::sample_crt_to` answers as the definitions say: the error sampler of the method's deviation draws as the distribution does.
+-- `sample_crt_to` answers 21 for a sampler that making never gives, and else draws by its method.
 use borrow.Author.Needs.{needs}
-use Rattle.distr.specs.Draw.{outcome}
-use Rattle.signed_discrete_gaussian.specs.Lent.{lent}
-use Rattle.secret_key_sampler.proofs.Held.{held-fits}
-use Rattle.secret_key_sampler.proofs.CrtAnswers.{crt-refused, crt-drawn}
+use Rattle.crt_draws.proofs.Families.{unmade}
+use Rattle.secret_key_sampler.proofs.SamplerFloats.{sampler-fits}
+use Rattle.secret_key_sampler.proofs.CrtAnswers.{crt-drawn}
 use Rattle.secret_key_sampler.proofs.SecretKeySampler.sample_crt_to.Statement.{statement}
 use Rattle.secret_key_sampler.proofs.SecretKeySampler.sample_crt_to.Tie as tie
 
-is-made-requires : tie.Need-is-made-requires
-is-made-requires c κs = search needs
-
 returns : tie.Need-returns
-returns c =
-    let a = c .before .before .before .before .before .before .before .before .before .args in
-    let t = lent (a .bounds .now) (a .endpoints .now) (a .heights .now) (a .curve .now) in
-    crt-refused t (a .coefficient-count) (a .moduli .now) (a .words .now) (a .place) (a .output .now) (a .self) _ (c .before .is-made .ensures) (c .if1 .taken)
-
-method-fields-requires : tie.Need-method-fields-requires
-method-fields-requires c κs = search needs
-
-try-new-requires : tie.Need-try-new-requires
-try-new-requires c κs = search needs
-
-sample-crt-to-requires : tie.Need-sample-crt-to-requires
-sample-crt-to-requires c κs = search needs
-
-same-length : tie.Need-same-length
-same-length c = search needs
+returns c = let tried = c .before in unmade _ _ _ _ _ _ _ _ _ (tried .before .is-made .ensures) (tried .if1 .taken) _ (c .refused .ensures)
 
 returns-2 : tie.Need-returns-2
 returns-2 c =
-    let made = c .before .before .before .before .before .before .before in
-    let start = made .before .before .before .before .before .before .before .before .before in
-    let a = start .args in
-    let t = lent (a .bounds .now) (a .endpoints .now) (a .heights .now) (a .curve .now) in
-    let fields = c .before .before .before .before .before .before .method-fields in
-    let gaussian = c .before .before .before .before .before .try-new in
-    let drawn = c .before .before .sample-crt-to in
-    crt-drawn t (a .coefficient-count) (a .moduli .now) (a .words .now) (a .place) (a .output .now) (a .self) _ (made .before .is-made .ensures)
-    (held-fits (a .self) _ (start .good .0)) (made .if1 .left) (fields .result) (fields .ensures) (gaussian .result) (gaussian .ensures)
-    (outcome (drawn .result) (drawn .last .1 .0)) (drawn .ensures)
+    let drawn = c .before .before in
+    let served = drawn .before .before in
+    let tried = served .before in
+    let start = tried .before .before .before .before .before .before .before .before .before in
+    crt-drawn _ _ _ _ _ _ (start .args .self) (sampler-fits (start .args .self) _ (start .good .0)) _ (tried .before .is-made .ensures) (tried .if1 .left) _
+    (served .crt-method .ensures) _ (drawn .sample-crt-to .ensures)
 
 pub sample-crt-to-spec : {M : Type 1} → statement M
 sample-crt-to-spec =
     tie.close
-    (tie.spec
-    is-made-requires
-    returns
-    method-fields-requires
-    try-new-requires
-    sample-crt-to-requires
-    same-length
-    returns-2)
+    (tie.spec (λ c κs. search needs) (λ c κs. search needs) returns (λ c κs. search needs) (λ c κs. search needs) (λ c. search needs) returns-2)

@@ -1,37 +1,31 @@
--- `SecretKeySampler::sample_signed_to` answers as the definitions say: the method of a made sampler draws as its distribution does.
-use borrow.Author.Needs.{needs}
+-- `SecretKeySampler::sample_signed_to` judges the sampler and draws by its method.
+use Rattle.draw_laws.proofs.Sampled.{signed-refused, signed-drawn}
 use Rattle.signed_discrete_gaussian.specs.Lent.{lent}
-use Rattle.secret_key_sampler.proofs.Held.{held-fits}
-use Rattle.secret_key_sampler.proofs.Answers.{signed-refused, signed-drawn}
-use Rattle.secret_key_sampler.proofs.SecretKeySampler.sample_signed_to.Statement.{
-  statement,
-}
+use Rattle.secret_key_draws.specs.Drawing.{methodDraw}
+use Rattle.secret_key_draws.proofs.Drawing.{prepared-draw}
+use Rattle.secret_key_sampler.proofs.Made.{makes}
+use Rattle.secret_key_sampler.proofs.SamplerFloats.{sampler-fits}
+use borrow.Author.Needs.{needs}
+use Rattle.secret_key_sampler.proofs.SecretKeySampler.sample_signed_to.Statement.{statement}
 use Rattle.secret_key_sampler.proofs.SecretKeySampler.sample_signed_to.Tie as tie
-
-is-made-requires : tie.Need-is-made-requires
-is-made-requires c κs = search needs
 
 returns : tie.Need-returns
 returns c =
-    let a = c .before .before .before .before .before .before .before .args in
+    let at = c .before in
+    let a = at .before .before .before .before .before .before .before .args in
     let t = lent (a .bounds .now) (a .endpoints .now) (a .heights .now) (a .curve .now) in
-    signed-refused (a .self) t (a .words .now) (a .place) (a .output .now) _ (c .before .is-made .ensures) (c .if1 .taken)
-
-sample-to-with-requires : tie.Need-sample-to-with-requires
-sample-to-with-requires c κs = search needs
-
-same-length : tie.Need-same-length
-same-length c = search needs
+    rw (c .refused .ensures) (signed-refused makes (a .self) (at .before .is-made .ensures) t (a .words .now) (a .place) (a .output .now) (at .if1 .taken))
 
 returns-2 : tie.Need-returns-2
 returns-2 c =
-    let made = c .before .before .before in
-    let start = made .before .before .before .before .before .before .before in
+    let at = c .before .before .before in
+    let start = at .before .before .before .before .before .before .before in
     let a = start .args in
     let t = lent (a .bounds .now) (a .endpoints .now) (a .heights .now) (a .curve .now) in
-    signed-drawn (a .self) t (a .words .now) (a .place) (a .output .now) _ (made .before .is-made .ensures)
-    (held-fits (a .self) _ (start .good .0)) (made .if1 .left) _ (c .before .sample-to-with .ensures)
+    signed-drawn makes (a .self) (at .before .is-made .ensures) t (a .words .now) (a .place) (a .output .now)
+    (sampler-fits (a .self) _ (start .good .0)) (at .if1 .left) (λ m. methodDraw (λ cs. cs) m t (a .words .now) (a .place) (a .output .now))
+    (λ d _. prepared-draw (λ cs. cs) t (a .words .now) (a .place) (a .output .now) d) (c .before .sample-to-with .ensures)
 
 pub sample-signed-to-spec : {M : Type 1} → statement M
 sample-signed-to-spec =
-    tie.close (tie.spec is-made-requires returns sample-to-with-requires same-length returns-2)
+    tie.close (tie.spec (λ c κs. search needs) (λ c κs. search needs) returns (λ c κs. search needs) (λ c. search needs) returns-2)

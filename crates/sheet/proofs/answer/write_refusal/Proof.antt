@@ -7,17 +7,11 @@ use Rattle.sheet.specs.Text.{answerText}
 use Rattle.sheet.proofs.answer.write_refusal.Statement.{statement}
 use Rattle.sheet.proofs.answer.write_refusal.Tie as tie
 
-write-head-requires : tie.Need-write-head-requires
-write-head-requires c κs = search needs
-
-same-length : tie.Need-same-length
-same-length c = search needs
-
 returns : tie.Need-returns
 unfolding answerText
 returns c =
     let start = c .before .before .before .before .before in
-    rw (ne-eqb (start .args .number) 0 (λ e. ne-of-lt (start .pre .1) (sym e))) (c .before .before .write-head .ensures)
+    rw (ne-eqb (start .args .number) 0 (λ e. ne-of-lt (start .pre .1) (sym e))) (c .before .before .write-head .ensures .0)
 
 pub write-refusal-spec : {M : Type 1} → statement M
-write-refusal-spec = tie.close (tie.spec write-head-requires same-length returns)
+write-refusal-spec = tie.close (tie.spec (λ c κs. search needs) (λ c. search needs) returns)

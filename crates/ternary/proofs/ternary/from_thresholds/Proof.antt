@@ -12,34 +12,26 @@ returns c = rw (c .if1 .taken)
 
 returns-2 : tie.Need-returns-2
 returns-2 c =
-    let start = c .before .before .before .before .before in
-    made-zero (start .args .negative) (start .args .positive) (c .before .before .before .before .if1 .left) (c .if2 .taken)
+    let part = c .before .before .before .before in
+    made-zero _ (part .before .args .positive) (part .if1 .left) (c .if2 .taken)
 
 returns-3 : tie.Need-returns-3
 returns-3 c =
-    let start = c .before .before .before .before .before .before in
-    made-one (start .args .negative) (start .args .positive) (c .before .before .before .before .before .if1 .left)
-    (omega (arith, start .good)) (c .if3 .taken)
-
-sub-if4 : tie.Need-sub-if4
-sub-if4 c = search needs
+    let part = c .before .before .before .before .before in
+    made-one _ _ (part .if1 .left) (omega (arith, part .before .good)) (c .if3 .taken)
 
 returns-4 : tie.Need-returns-4
 returns-4 c =
-    let start = c .before .before .before .before .before .before .before .before .before in
-    made-nonzero (start .args .negative) (start .args .positive) (c .before .before .before .before .before .before .before .before .if1 .left)
-    (omega (arith, start .good)) (omega (arith, start .good)) (c .before .before .before .if3 .left) (c .if4 .taken)
-
-add-t11 : tie.Need-add-t11
-add-t11 c = search needs
+    let both = c .before .before .before in
+    let part = both .before .before .before .before .before in
+    made-nonzero _ _ (part .if1 .left) (omega (arith, part .before .good)) (omega (arith, part .before .good)) (both .if3 .left) (c .if4 .taken)
 
 returns-5 : tie.Need-returns-5
 returns-5 c =
-    let start = c .before .before .before .before .before .before .before .before .before .before .before in
-    made-general (start .args .negative) (start .args .positive) (c .before .before .before .before .before .before .before .before .before .before .if1 .left)
-    (omega (arith, start .good)) (c .before .before .before .before .before .if3 .left) (c .before .before .before .before .before .before .if2 .left)
-    (c .before .before .if4 .left)
+    let both = c .before .before .before .before .before in
+    let part = both .before .before .before .before .before in
+    made-general _ _ (part .if1 .left) (omega (arith, part .before .good)) (both .if3 .left) (both .before .if2 .left) (c .before .before .if4 .left)
 
 pub from-thresholds-spec : {M : Type 1} → statement M
 from-thresholds-spec =
-    tie.close (tie.spec returns returns-2 returns-3 sub-if4 returns-4 add-t11 returns-5)
+    tie.close (tie.spec returns returns-2 returns-3 (λ c. search needs) returns-4 (λ c. search needs) returns-5)

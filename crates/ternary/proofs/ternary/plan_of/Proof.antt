@@ -4,18 +4,6 @@ use Rattle.ternary.specs.Sampler.{planOf}
 use Rattle.ternary.proofs.ternary.plan_of.Statement.{statement}
 use Rattle.ternary.proofs.ternary.plan_of.Tie as tie
 
-enum-known-ends : tie.Need-enum-known-ends
-enum-known-ends c = search needs
-
-enum-known-ends-2 : tie.Need-enum-known-ends-2
-enum-known-ends-2 c = search needs
-
-enum-known-ends-3 : tie.Need-enum-known-ends-3
-enum-known-ends-3 c = search needs
-
-larger-requires : tie.Need-larger-requires
-larger-requires c κs = search needs
-
 returns : tie.Need-returns
 unfolding planOf
 returns c = rw (c .before .ends .given .1)
@@ -30,12 +18,4 @@ returns-3 c = rw (c .before .before .ends3 .given .1, c .larger .ensures)
 
 pub plan-of-spec : {M : Type 1} → statement M
 plan-of-spec =
-    tie.close
-    (tie.spec
-    enum-known-ends
-    enum-known-ends-2
-    enum-known-ends-3
-    larger-requires
-    returns
-    returns-2
-    returns-3)
+    tie.close (tie.spec (λ c. search needs) (λ c. search needs) (λ c. search needs) (λ c κs. search needs) returns returns-2 returns-3)

@@ -5,18 +5,6 @@ use borrow.Author.Needs.{needs, sfits-of}
 use Rattle.ternary_i64.proofs.draw.encoded.Statement.{statement}
 use Rattle.ternary_i64.proofs.draw.encoded.Tie as tie
 
-enum-told : tie.Need-enum-told
-enum-told c = search needs
-
-minus-one-requires : tie.Need-minus-one-requires
-minus-one-requires c κs = search needs
-
-enum-told-2 : tie.Need-enum-told-2
-enum-told-2 c = search needs
-
-enum-told-3 : tie.Need-enum-told-3
-enum-told-3 c = search needs
-
 returns : tie.Need-returns
 returns c = rw (c .before .enum-told .given .1) (toZ-ofZ (sfits-of (c .minus-one .ok)) ∙ c .minus-one .ensures)
 
@@ -28,5 +16,4 @@ returns-3 c = rw (c .enum-told3 .given .1) refl
 
 pub encoded-spec : {M : Type 1} → statement M
 encoded-spec =
-    tie.close
-    (tie.spec enum-told minus-one-requires enum-told-2 enum-told-3 returns returns-2 returns-3)
+    tie.close (tie.spec (λ c. search needs) (λ c κs. search needs) (λ c. search needs) (λ c. search needs) returns returns-2 returns-3)

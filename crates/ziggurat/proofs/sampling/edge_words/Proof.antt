@@ -2,14 +2,14 @@
 use mathlib.Core.Path.{sym}
 use native.Mathlib.Omega.{arith}
 use Rattle.words.specs.Reading.{thresholdValue}
-use Rattle.ziggurat.proofs.Passing.{fringe-words, full-words, zero-words}
+use Rattle.ziggurat.proofs.Passing.{edge-word, full-words, zero-words}
 use Rattle.ziggurat.proofs.sampling.edge_words.Statement.{statement}
 use Rattle.ziggurat.proofs.sampling.edge_words.Tie as tie
 
 returns : tie.Need-returns
 returns c =
     let a = c .before .args in
-    sym (fringe-words (thresholdValue (a .zero)) (a .magnitude) (c .if1 .taken))
+    sym (edge-word (thresholdValue (a .zero)) (a .magnitude) (c .if1 .taken))
 
 returns-2 : tie.Need-returns-2
 returns-2 c =

@@ -11,22 +11,15 @@ use Rattle.ziggurat_u64.proofs.sampling.attempt.Statement.{statement}
 use Rattle.ziggurat_u64.proofs.sampling.attempt.Tie as tie
 
 abbrev start : tie.After-tried → tie.Start
-start c = c .before .before .before .before .before
+start c =
+    let before = c .before .before .before .before .before in
+    before
 
 abbrev tried : tie.After-tried → Trial
 tried c = c .tried .given .0 .0
 
 proposed : (c : tie.After-tried) → Proposes (start c .args .endpoints .now) (start c .args .words .now) (start c .args .place) (Got (tried c))
 proposed c = rw (c .tried .given .1) at (c .before .before .propose .ensures)
-
-propose-requires : tie.Need-propose-requires
-propose-requires c κs = search needs
-
-enum-known-tried : tie.Need-enum-known-tried
-enum-known-tried c = search needs
-
-enum-told : tie.Need-enum-told
-enum-told c = search needs
 
 returns : tie.Need-returns
 returns c = unproposed (rw (c .enum-told .given .1) at (c .before .before .propose .ensures))
@@ -45,9 +38,6 @@ returns-2 c =
       within = p .sound .2;
     }
 
-edge-words-requires : tie.Need-edge-words-requires
-edge-words-requires c κs = search needs
-
 sub-if2 : tie.Need-sub-if2
 sub-if2 c = proposed (c .before .before .before .before) .sound .2
 
@@ -57,9 +47,6 @@ returns-3 c =
     let t = e .before .before .before in
     unjudged (tried t) (proposed t) (sym (e .before .inside .ensures) ∙ e .if1 .left)
     (omega (arith, c .before .edge-words .ensures, c .if2 .taken, proposed t .sound .2))
-
-add-t10 : tie.Need-add-t10
-add-t10 c = search needs
 
 returns-4 : tie.Need-returns-4
 returns-4 c =
@@ -76,15 +63,5 @@ returns-4 c =
 pub attempt-spec : {M : Type 1} → statement M
 attempt-spec =
     tie.close
-    (tie.spec
-    propose-requires
-    enum-known-tried
-    enum-told
-    returns
-    inside-requires
-    returns-2
-    edge-words-requires
-    sub-if2
-    returns-3
-    add-t10
-    returns-4)
+    (tie.spec (λ c κs. search needs) (λ c. search needs) (λ c. search needs) returns inside-requires returns-2 (λ c κs. search needs) sub-if2
+    returns-3 (λ c. search needs) returns-4)

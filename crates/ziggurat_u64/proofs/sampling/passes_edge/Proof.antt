@@ -7,25 +7,27 @@ use borrow.Author.Needs.{needs}
 use lib.ListN.{length, getD, drop}
 use lib.Ieee.{Float, nan}
 use Rattle.distr.specs.Words.{got}
-use Rattle.distr.specs.Gaussian.{literal}
+use Rattle.distr.specs.Constants.{literal}
 use Rattle.distr.specs.Layered.{Layers, float}
 use Rattle.words.specs.Reading.{thresholdValue}
-use Rattle.fringe.specs.declared.Layer.{Layer}
+use Rattle.edge.specs.declared.Layer.{Layer}
 use Rattle.ziggurat.specs.Tables.{tables}
-use Rattle.fringe.specs.Fringe.{acceptsOn}
+use Rattle.edge.specs.Edge.{acceptsOn}
 use Rattle.ziggurat.specs.Sampling.{edgeWords}
 use Rattle.layer_tables.proofs.Judging.{getD-there}
-use Rattle.fringe.proofs.Accepting.{same-accepts}
-use Rattle.ziggurat.proofs.Passing.{not-full, fringe-words, zero-words, full-passes, zero-passes, fringe-passes}
+use Rattle.edge.proofs.Accepting.{same-accepts}
+use Rattle.ziggurat.proofs.Passing.{not-full, edge-word, zero-words, full-passes, zero-passes, edge-passes}
 use Rattle.ziggurat_u64.proofs.sampling.passes_edge.Statement.{statement}
 use Rattle.ziggurat_u64.proofs.sampling.passes_edge.Tie as tie
 
 abbrev layers : tie.Start → Layers
 layers s = tables (s .args .endpoints .now) (s .args .heights .now) (s .args .curve .now)
 
--- the two words of zero, and the one of the fringe
+-- the two words of zero, and the one of the edge
 abbrev start : tie.Else2 → tie.Start
-start c = c .before .before .before .before .before .before
+start c =
+    let before = c .before .before .before .before .before .before in
+    before
 
 drawn : (c : tie.Else2) → thresholdValue (start c .args .zero) ≡ start c .args .zero .below
 drawn c = not-full (start c .args .zero) (c .if2 .left)
@@ -35,13 +37,10 @@ two c =
     let s = start c in
     omega (arith, s .pre .1 .1, zero-words (thresholdValue (s .args .zero)) (s .args .magnitude) (c .before .if1 .taken) (omega (arith, drawn c)))
 
-small : (c : tie.Else2) (i : ℕ) → getD (start c .args .words .now) i 0 < 2 ^ 32
-small c i = omega (arith, c .before .before .shared-slice-known4 .given i)
-
 one : (c : tie.Else1) → let s = c .before .before .before .before .before in s .args .place < length (s .args .words .now)
 one c =
     let s = c .before .before .before .before .before in
-    omega (arith, s .pre .1 .1, fringe-words (thresholdValue (s .args .zero)) (s .args .magnitude) (c .if1 .left))
+    omega (arith, s .pre .1 .1, edge-word (thresholdValue (s .args .zero)) (s .args .magnitude) (c .if1 .left))
 
 returns : tie.Need-returns
 returns c =
@@ -49,59 +48,23 @@ returns c =
     full-passes (s .args .deviation) (layers s) (s .args .layer) (s .args .magnitude) (thresholdValue (s .args .zero)) (s .pre .1 .0) (s .args .words .now)
     (s .args .place) (c .before .if1 .taken) (rw (c .if2 .taken))
 
-mul-result : tie.Need-mul-result
-mul-result c = search needs
+shared-slice-read-wide-word : tie.Need-shared-slice-read-wide-word
+shared-slice-read-wide-word c = omega (arith, two (c .before))
 
-shared-slice-read-result : tie.Need-shared-slice-read-result
-shared-slice-read-result c = omega (arith, two (c .before))
-
-cast-result : tie.Need-cast-result
-cast-result c = omega (arith, small (c .before) (start (c .before) .args .place))
-
-add-result : tie.Need-add-result
-add-result c = search needs
-
-mul-result-2 : tie.Need-mul-result-2
-mul-result-2 c = search needs
-
-shared-slice-read-result-2 : tie.Need-shared-slice-read-result-2
-shared-slice-read-result-2 c = two (c .before .before)
-
-cast-result-2 : tie.Need-cast-result-2
-cast-result-2 c = omega (arith, small (c .before .before) (start (c .before .before) .args .place + 1))
-
-mul-result-3 : tie.Need-mul-result-3
-mul-result-3 c = omega (arith, small (c .before .before) (start (c .before .before) .args .place + 1))
-
-add-result-2 : tie.Need-add-result-2
-add-result-2 c =
-    let p = start (c .before .before) .args .place in
-    omega (arith, small (c .before .before) p, small (c .before .before) (p + 1))
+shared-slice-read-wide-word-2 : tie.Need-shared-slice-read-wide-word-2
+shared-slice-read-wide-word-2 c = two (c .before .before)
 
 returns-2 : tie.Need-returns-2
 returns-2 c =
-    let e = c .before .before .before in
+    let made = c .before in
+    let e = made .before .before .before in
     let s = start e in
-    zero-passes (s .args .deviation) (layers s) (s .args .layer) (s .args .magnitude) (thresholdValue (s .args .zero)) (s .pre .1 .0) (s .args .words .now)
-    (s .args .place) (e .before .if1 .taken) (s .args .zero .below) (drawn e) (omega arith) (two e)
-
-layer-at-requires : tie.Need-layer-at-requires
-layer-at-requires c κs = search needs
-
-mul-pdf : tie.Need-mul-pdf
-mul-pdf c = search needs
-
-shared-slice-read-pdf : tie.Need-shared-slice-read-pdf
-shared-slice-read-pdf c = search needs
-
-mul-accepts : tie.Need-mul-accepts
-mul-accepts c = search needs
+    rw (made .wide-word .ensures)
+    (zero-passes (s .args .deviation) (layers s) (s .args .layer) (s .args .magnitude) (thresholdValue (s .args .zero)) (s .pre .1 .0) (s .args .words .now)
+    (s .args .place) (e .before .if1 .taken) (s .args .zero .below) (drawn e) (omega arith) (two e))
 
 shared-slice-read-accepts : tie.Need-shared-slice-read-accepts
 shared-slice-read-accepts c = one (c .before .before .before)
-
-accepts-requires : tie.Need-accepts-requires
-accepts-requires c κs = search needs
 
 returns-3 : tie.Need-returns-3
 returns-3 c =
@@ -109,7 +72,7 @@ returns-3 c =
     let s = e .before .before .before .before .before in
     let a = s .args in
     let t = layers s in
-    fringe-passes (a .deviation) t (a .layer) (a .magnitude) (thresholdValue (a .zero)) (s .pre .1 .0) (a .words .now) (a .place) (e .if1 .left) (one e)
+    edge-passes (a .deviation) t (a .layer) (a .magnitude) (thresholdValue (a .zero)) (s .pre .1 .0) (a .words .now) (a .place) (e .if1 .left) (one e)
     ∙ ap (λ (b : Bool). got b (drop (a .place + edgeWords (thresholdValue (a .zero)) (a .magnitude)) (a .words .now)))
     (sym (c .accepts .ensures
     ∙ ap₂ (λ (l : Layer) (p : Float). acceptsOn (a .deviation) l (float (a .magnitude)) p (float (getD (a .words .now) (a .place) 0)))
@@ -119,22 +82,6 @@ returns-3 c =
 pub passes-edge-spec : {M : Type 1} → statement M
 passes-edge-spec =
     tie.close
-    (tie.spec
-    returns
-    mul-result
-    shared-slice-read-result
-    cast-result
-    add-result
-    mul-result-2
-    shared-slice-read-result-2
-    cast-result-2
-    mul-result-3
-    add-result-2
-    returns-2
-    layer-at-requires
-    mul-pdf
-    shared-slice-read-pdf
-    mul-accepts
-    shared-slice-read-accepts
-    accepts-requires
-    returns-3)
+    (tie.spec returns (λ c. search needs) shared-slice-read-wide-word (λ c. search needs) (λ c. search needs) shared-slice-read-wide-word-2
+    (λ c κs. search needs) returns-2 (λ c κs. search needs) (λ c. search needs) (λ c. search needs) (λ c. search needs) shared-slice-read-accepts
+    (λ c κs. search needs) returns-3)

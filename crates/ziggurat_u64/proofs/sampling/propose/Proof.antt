@@ -46,17 +46,8 @@ magnitude c =
       chosen-below ws from (c .value .given .0 .0) (c .value .given .0 .1 .0) (endpoint r + 1) given,
     )
 
-sub-if1 : tie.Need-sub-if1
-sub-if1 c = search needs
-
 returns : tie.Need-returns
 returns c = few-words _ _ _ (c .if1 .taken)
-
-mul-layer : tie.Need-mul-layer
-mul-layer c = search needs
-
-shared-slice-read-layer : tie.Need-shared-slice-read-layer
-shared-slice-read-layer c = search needs
 
 cast-layer : tie.Need-cast-layer
 cast-layer c = omega (arith, c .shared-slice-known3 .given (start c .args .place))
@@ -66,15 +57,6 @@ sub-layer c = omega (arith, layer-there c)
 
 add-layer : tie.Need-add-layer
 add-layer c = omega (arith, layer-there c)
-
-add-positive : tie.Need-add-positive
-add-positive c = search needs
-
-mul-positive : tie.Need-mul-positive
-mul-positive c = search needs
-
-shared-slice-read-positive : tie.Need-shared-slice-read-positive
-shared-slice-read-positive c = search needs
 
 mul-end : tie.Need-mul-end
 mul-end c = omega (arith, layer-there (c .before))
@@ -87,21 +69,6 @@ returns-2 c =
     let r = c .before .before .before in
     far-endpoint _ _ _ (start r .pre .0) (two r) (small r) (c .if2 .taken)
 
-add-uniform-below : tie.Need-add-uniform-below
-add-uniform-below c = search needs
-
-add-uniform-below-2 : tie.Need-add-uniform-below-2
-add-uniform-below-2 c = search needs
-
-uniform-below-requires : tie.Need-uniform-below-requires
-uniform-below-requires c κs = search needs
-
-enum-known-value : tie.Need-enum-known-value
-enum-known-value c = search needs
-
-enum-told : tie.Need-enum-told
-enum-told c = search needs
-
 returns-3 : tie.Need-returns-3
 returns-3 c =
     let r = c .before .before .before .before .before .before in
@@ -110,10 +77,13 @@ returns-3 c =
     (rw (add-one (endpoint r)) at (taken-short (length (a .words .now)) _ (sym (c .enum-told .given .1) ∙ c .before .before .uniform-below .ensures)))
 
 cast-t13 : tie.Need-cast-t13
-cast-t13 c = omega (arith, magnitude (c .before) .1, c .before .before .before .before .if2 .left)
+cast-t13 c =
+    let if2 = c .before .before .before .before .if2 in
+    omega (arith, magnitude (c .before) .1, if2 .left)
 
 returns-4 : tie.Need-returns-4
 returns-4 c =
+    let if2 = c .before .before .before .before .if2 in
     let r = c .before .before .before .before .before .before .before in
     let took = magnitude (c .before) .0 in
     all-three _ _ _ (start r .pre .0) (two r) (small r) _ _ (rw (add-one (endpoint r)) at (took .reads))
@@ -121,32 +91,13 @@ returns-4 c =
       some = omega arith;
       there = layer-there r;
       below = omega (arith, magnitude (c .before) .1);
-      small = omega (arith, c .before .before .before .before .if2 .left);
+      small = omega (arith, if2 .left);
     })
     (omega (arith, took .later)) (took .within)
 
 pub propose-spec : {M : Type 1} → statement M
 propose-spec =
     tie.close
-    (tie.spec
-    sub-if1
-    returns
-    mul-layer
-    shared-slice-read-layer
-    cast-layer
-    sub-layer
-    add-layer
-    add-positive
-    mul-positive
-    shared-slice-read-positive
-    mul-end
-    shared-slice-read-end
-    returns-2
-    add-uniform-below
-    add-uniform-below-2
-    uniform-below-requires
-    enum-known-value
-    enum-told
-    returns-3
-    cast-t13
-    returns-4)
+    (tie.spec (λ c. search needs) returns (λ c. search needs) (λ c. search needs) cast-layer sub-layer add-layer (λ c. search needs)
+    (λ c. search needs) (λ c. search needs) mul-end shared-slice-read-end returns-2 (λ c. search needs) (λ c. search needs) (λ c κs. search needs)
+    (λ c. search needs) (λ c. search needs) returns-3 cast-t13 returns-4)

@@ -4,11 +4,5 @@ use Rattle.primus_distr.proofs.Making.{binomial-made}
 use Rattle.primus_distr.proofs.binomial.CenteredBinomial.new.Statement.{statement}
 use Rattle.primus_distr.proofs.binomial.CenteredBinomial.new.Tie as tie
 
-new-requires : tie.Need-new-requires
-new-requires c κs = search needs
-
-returns : tie.Need-returns
-returns c = rw (c .before .new .ensures) (binomial-made _)
-
 pub new-spec : {M : Type 1} → statement M
-new-spec = tie.close (tie.spec new-requires returns)
+new-spec = tie.close (tie.spec (λ c κs. search needs) (λ c. rw (c .before .new .ensures) (binomial-made _)))

@@ -5,23 +5,8 @@ use Rattle.primus_distr.proofs.gaussian.SignedDiscreteGaussian.sample_t
 }
 use Rattle.primus_distr.proofs.gaussian.SignedDiscreteGaussian.sample_to.Tie as tie
 
-as-error-requires : tie.Need-as-error-requires
-as-error-requires c κs = search needs
-
-sample-signed-to-requires : tie.Need-sample-signed-to-requires
-sample-signed-to-requires c κs = search needs
-
-same-length : tie.Need-same-length
-same-length c = search needs
-
-returns : tie.Need-returns
-returns c = rw (c .before .before .before .as-error .ensures) at (c .before .sample-signed-to .ensures)
-
 pub sample-to-spec : {M : Type 1} → statement M
 sample-to-spec =
     tie.close
-    (tie.spec
-    as-error-requires
-    sample-signed-to-requires
-    same-length
-    returns)
+    (tie.spec (λ c κs. search needs) (λ c κs. search needs) (λ c. search needs)
+    (λ c. let view = c .before .before .before .as-error in rw (view .ensures) at (c .before .sample-signed-to .ensures)))

@@ -1,0 +1,2 @@
+-- The draws of the families that CRT draws serve.
+pub mod Drawing

@@ -1,0 +1,114 @@
+-- The numbers that refuse, and the limits that document 01 names. When each number comes stands in Making, Numbers and Draw.
+use Prim.Native.Nat.{ℕ}
+use mathlib.Core.Bool.{false}
+use lib.Ieee.{Float, binary64, round}
+
+-- ---- limits
+
+-- The f64 nearest to a fraction, as the compiler reads a literal: 0.7 is `literal 7 10`.
+abbrev pub literal : ℕ → ℕ → Float
+literal a b = round binary64 false a b
+
+-- "Output longer than 65,536."
+abbrev pub outputLimit : ℕ
+outputLimit = 65536
+
+-- "Eta outside 1..32."
+abbrev pub etaLimit : ℕ
+etaLimit = 32
+
+-- "Deviation … below 0.7."
+abbrev pub leastDeviation : Float
+leastDeviation = literal 7 10
+
+-- "⌊deviation × 12.0⌋."
+abbrev pub tailCut : Float
+tailCut = literal 12 1
+
+-- "M ≤ 255 uses a lent cumulative table."
+abbrev pub cumulativeLimit : ℕ
+cumulativeLimit = 255
+
+-- "Support above 4,095."
+abbrev pub supportLimit : ℕ
+supportLimit = 4095
+
+-- "Reads standard input, at most 65,536 bytes"; "n over 4,096, over 8,192 words."
+abbrev pub sheetBytes : ℕ
+sheetBytes = 65536
+
+abbrev pub sheetCoefficients : ℕ
+sheetCoefficients = 4096
+
+abbrev pub sheetWords : ℕ
+sheetWords = 8192
+
+-- ---- "What a call hands back": the numbers
+
+-- "1 a probability not finite, outside 0..1, or negative > 1.0 − positive in f64."
+abbrev pub invalidProbabilities : ℕ
+invalidProbabilities = 1
+
+-- "2 deviation not finite, below 0.7, or its square or doubled square not finite."
+abbrev pub invalidDeviation : ℕ
+invalidDeviation = 2
+
+-- "3 support above 4,095."
+abbrev pub supportTooLarge : ℕ
+supportTooLarge = 3
+
+-- "4 eta outside 1..32."
+abbrev pub invalidEta : ℕ
+invalidEta = 4
+
+-- "5 block size 0, or 2^64−1 with `AtMostOne`."
+abbrev pub invalidBlockSize : ℕ
+invalidBlockSize = 5
+
+-- "6 output longer than 65,536."
+abbrev pub outputTooLong : ℕ
+outputTooLong = 6
+
+-- "7 weights over the length, or their sum over 2^64−1."
+abbrev pub invalidWeight : ℕ
+invalidWeight = 7
+
+-- "8 block length 0 or no multiple of the block size."
+abbrev pub invalidBlockLength : ℕ
+invalidBlockLength = 8
+
+-- "9 largest magnitude (M, eta, else 1) above modulus − 1."
+abbrev pub modulusTooSmall : ℕ
+modulusTooSmall = 9
+
+-- "10 a CRT modulus of 0."
+abbrev pub modulusZero : ℕ
+modulusZero = 10
+
+-- "11 CRT output length not coefficients × moduli, or that product over 2^64−1."
+abbrev pub invalidShape : ℕ
+invalidShape = 11
+
+-- "12 cumulative table malformed, its length included."
+abbrev pub invalidCumulativeTable : ℕ
+invalidCumulativeTable = 12
+
+-- "13 layer tables malformed."
+abbrev pub invalidLayerTables : ℕ
+invalidLayerTables = 13
+
+-- "14 sheet malformed."
+abbrev pub invalidSheet : ℕ
+invalidSheet = 14
+
+-- "21 a sampler that making never gives, the empty one included."
+abbrev pub neverMade : ℕ
+neverMade = 21
+
+-- "22 place past the end of the words."
+abbrev pub placePastEnd : ℕ
+placePastEnd = 22
+
+-- "23 the rules need a word that is not there."
+abbrev pub outOfWords : ℕ
+outOfWords = 23

@@ -1,2 +1,0 @@
--- One layer of the lent tables, and the acceptance test over it.
-pub mod Fringe

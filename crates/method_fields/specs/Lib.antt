@@ -1,2 +1,0 @@
--- The fields of a prepared method as numbers, by which two methods are compared.
-pub mod Fields

@@ -1,0 +1,30 @@
+-- Trits out of bytes, stored in an output: what is stored, what is left to read, and where the reading stopped.
+use Prim.Native.Nat.{ℕ, _+_, _*_, _-_, _/_, _≤_}
+use mathlib.Core.Bool.{cond}
+use mathlib.Core.Path.{_≡_}
+use mathlib.Core.List.{List, _++_}
+use lib.ListN.{length, take, drop}
+use Rattle.distr.specs.Words.{Read, got, short, mapRead}
+use Rattle.distr.specs.Packed.{split}
+use Rattle.distr.specs.UniformTernary.{acceptedBytes, bytes}
+use Rattle.packed.specs.declared.bytes.Ended.{Ended}
+use Rattle.packed.specs.Pairs.{digitValues}
+
+-- How many bytes k values need.
+abbrev pub bytesWanted : ℕ → ℕ
+bytesWanted k = (k + 4) / 5
+
+-- What the output holds in the end, where its first `at` values stand and those after them are read out of the words ws.
+abbrev pub tritsFrom : {A : Type 0} → A → List A → List A → ℕ → List ℕ → Read (List A)
+tritsFrom z pairs out at ws =
+    mapRead (λ ds. take at out ++ digitValues z pairs (take (length out - at) (split 3 5 ds))) (bytes ws (bytesWanted (length out - at)))
+
+-- From `at` on the values of the bytes below 243 among bs are stored, five a byte; they end before at′. What stands there is left free.
+pub record BytesStored {A : Type 0} (z : A) (pairs out : List A) (at : ℕ) (bs : List ℕ) (out′ : List A) (at′ : ℕ) : Type 0 where
+  pub moved : at′ ≡ at + 5 * length (acceptedBytes bs)
+  pub within : at′ ≤ at + 5 * length bs
+  pub holds : take at′ out′ ≡ take at out ++ digitValues z pairs (split 3 5 (acceptedBytes bs))
+
+-- The output, with the words left; or a word was missing, whatever the output holds.
+abbrev pub reading : {A : Type 0} → Ended → List A → List ℕ → Read (List A)
+reading e out words = cond (e .found) (got out (drop (e .place) words)) short

@@ -1,2 +1,0 @@
--- The laws of the test of a table.
-pub mod Judging

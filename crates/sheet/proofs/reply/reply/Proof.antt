@@ -1,0 +1,57 @@
+-- `reply::reply` writes the text of the draw that the fields ask for.
+use mathlib.Core.Path.{_≡_, ap, _∙_}
+use native.Mathlib.Omega.{arith}
+use Prim.Native.Nat.{ℕ}
+use borrow.Author.Needs.{needs}
+use lib.ListN.{length, take, length-replicate}
+use Rattle.sheet.proofs.Placing.{written-same}
+use Rattle.distr.proofs.Writing.{take-replicate}
+use Rattle.sheet.proofs.Answers.{drawn-text, refusal-text, success-text, prefix-length}
+use Rattle.sheet.proofs.reply.reply.Statement.{statement}
+use Rattle.sheet.proofs.reply.reply.Tie as tie
+
+-- there are n values
+sized : (c : tie.After-values-room) → let n = c .before .before .before .before .args .f .n in n ≡ length (take n (c .values-room .result))
+sized c =
+    let start = c .before .before .before .before in
+    prefix-length (start .args .f .n) (c .values-room .result)
+    (omega (arith, start .pre .1, ap length (c .values-room .ensures), length-replicate {A = ℕ} 4096 0))
+
+draw-requires : tie.Need-draw-requires
+draw-requires c κs =
+    let room = c .before .before in
+    let start = room .before .before .before .before in
+    let n = start .args .f .n in
+    (start .pre .1, start .pre .2, ap (take n) (room .values-room .ensures) ∙ take-replicate n 4096 0 (start .pre .1))
+
+returns : tie.Need-returns
+returns c =
+    let test = c .before .before .before .before .before in
+    let drawn = test .before .before .before in
+    let start = drawn .before .before .before .before .before .before .before in
+    written-same (refusal-text _ _ _ _ (test .if1 .taken) ∙ drawn-text (start .args .f) (start .args .words .now) _ (drawn .draw .ensures))
+    (c .before .before .write-refusal .ensures)
+
+write-success-requires : tie.Need-write-success-requires
+write-success-requires c κs =
+    let values = c .before .before .before .before .values in
+    let drawn = c .before .before .before .before .before in
+    let room = drawn .before .before .before in
+    let start = room .before .before .before .before in
+    (start .pre .0, omega (arith, start .pre .1, values .given, sized room))
+
+returns-2 : tie.Need-returns-2
+returns-2 c =
+    let test = c .before .before .before .before .before .before in
+    let drawn = test .before .before .before in
+    let room = drawn .before .before .before in
+    let start = room .before .before .before .before in
+    written-same (success-text _ _ _ _ _ (test .if1 .left) (omega (arith, test .before .before .values .given, sized room))
+    ∙ drawn-text (start .args .f) (start .args .words .now) _ (drawn .draw .ensures))
+    (c .before .before .before .write-success .ensures)
+
+pub reply-spec : {M : Type 1} → statement M
+reply-spec =
+    tie.close
+    (tie.spec (λ c. search needs) (λ c κs. search needs) (λ c. search needs) (λ c. sized (c .before)) draw-requires (λ c κs. search needs)
+    (λ c. search needs) returns write-success-requires (λ c. search needs) returns-2)
