@@ -1,2 +1,2 @@
--- A distribution of either kind: making its sampler, and drawing by it.
+-- A distribution of either kind: making its sampler, and drawing at once.
 pub mod Either

@@ -10,15 +10,15 @@ use Rattle.distr.specs.declared.secret_key_distr.SecretKeyDistr.the-variants.{F
 use Rattle.distr.specs.declared.secret_key_distr.SecretKeyDistr.the-variants.{FixedCompositionTernary, Gaussian}
 use Rattle.distr.specs.declared.secret_key_distr.BlockOccupancy.the-variants.{AtMostOne, ExactlyOne}
 use Rattle.distr.specs.declared.error_distribution.ErrorDistribution.the-variants.{CenteredBinomial, Gaussian as ErrorGaussian}
-use Rattle.distr.specs.Constants.{etaLimit, invalidSheet}
+use Rattle.distr.specs.Constants.{etaLimit}
 use Rattle.distr.specs.Draw.{Outcome}
 use Rattle.any_sampler.specs.declared.AnyDistr.{AnyDistr}
-use Rattle.any_sampler.specs.declared.AnyDistr.the-variants.{Secret, Error, Refused}
+use Rattle.any_sampler.specs.declared.AnyDistr.the-variants.{Secret, Error, Unknown}
 
 -- The kinds from 0 on, of which 0 and those past the last name nothing: 14. An eta above 32 is refused, whatever it is, and stands as 33.
 abbrev pub kinds : ℕ → ℕ → Float → Float → List AnyDistr
 kinds a b p q =
-    Refused invalidSheet
+    Unknown
     ∷ Secret UniformBinary
     ∷ Secret SparseTernary
     ∷ Secret UniformTernary
@@ -35,7 +35,7 @@ kinds a b p q =
     ∷ []
 
 abbrev pub named : ℕ → ℕ → ℕ → Float → Float → AnyDistr
-named kind a b p q = getD (kinds a b p q) kind (Refused invalidSheet)
+named kind a b p q = getD (kinds a b p q) kind Unknown
 
 -- The answer of a call: its number, the place that it writes and what its output holds then.
 abbrev pub answered : {A : Type 0} → ℕ → ℕ → List A → Outcome A

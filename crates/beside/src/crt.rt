@@ -1,5 +1,6 @@
 // The call that draws residues of several moduli.
 use crate::kind::by_kind;
+use prepared_draws::crt_draw::sample_crt_to;
 ghost use mathlib.Core.Bool.{true};
 ghost use mathlib.Core.Path.{_≡_};
 ghost use Rattle.distr.specs.Distribution.{Distr};
@@ -31,9 +32,9 @@ pub extern "C" fn beside_crt(
         (lent (now (bounds .entry)) (now (endpoints .entry)) (now (heights .entry)) (now (curve .entry)))
         «coefficient_count» (now (moduli .entry)) (now (words .entry)) place (now (output .entry))) ⌝ }
 {
-    let distr = by_kind(kind, a, b, p, q);
-    let answer = distr.draw_crt(
+    let answer = sample_crt_to(
         output,
+        by_kind(kind, a, b, p, q).prepare(),
         coefficient_count,
         moduli,
         bounds,

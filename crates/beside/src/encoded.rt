@@ -1,5 +1,7 @@
 // The call that draws residues of one modulus.
 use crate::kind::by_kind;
+use prepared_draws::encoded::ResidueMethod;
+use prepared_draws::encoded::sample_encoded_to;
 ghost use mathlib.Core.Bool.{true};
 ghost use mathlib.Core.Path.{_≡_};
 ghost use Rattle.distr.specs.Distribution.{Distr};
@@ -30,17 +32,9 @@ pub extern "C" fn beside_encoded(
         (lent (now (bounds .entry)) (now (endpoints .entry)) (now (heights .entry)) (now (curve .entry)))
         modulus (now (words .entry)) place (now (output .entry))) ⌝ }
 {
-    let distr = by_kind(kind, a, b, p, q);
-    let answer = distr.draw_encoded(
-        output,
-        modulus,
-        bounds,
-        endpoints,
-        heights,
-        curve,
-        words,
-        place,
-    );
+    let prepared = by_kind(kind, a, b, p, q).prepare();
+    let by = ResidueMethod { prepared, modulus };
+    let answer = sample_encoded_to(output, by, bounds, endpoints, heights, curve, words, place);
     *new_place = answer.place;
     answer.number
 }

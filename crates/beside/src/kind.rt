@@ -1,7 +1,6 @@
 // The distribution that a kind of the calls names.
 use any_sampler::AnyDistr;
 use distr::error_distribution::ErrorDistribution;
-use distr::refusal::INVALID_SHEET;
 use distr::secret_key_distr::BlockOccupancy;
 use distr::secret_key_distr::SecretKeyDistr;
 ghost use mathlib.Core.Path.{_≡_};
@@ -44,6 +43,6 @@ pub fn by_kind(kind: u32, a: usize, b: usize, p: f64, q: f64) -> AnyDistr
         13 => AnyDistr::Error(ErrorDistribution::Gaussian {
             standard_deviation: p,
         }),
-        0 | 14..=0xffff_ffff => AnyDistr::Refused(INVALID_SHEET),
+        0 | 14..=0xffff_ffff => AnyDistr::Unknown,
     }
 }

@@ -12,13 +12,13 @@ pub use crt::beside_crt;
 pub use encoded::beside_encoded;
 pub use signed::beside_signed;
 ghost use mathlib.Core.Path.{_≡_};
-ghost use Rattle.any_sampler.specs.Either.{numberOf};
+ghost use Rattle.any_sampler.specs.Either.{preparingAny};
 ghost use Rattle.beside.specs.Calls.{named};
 
 // The number of making a sampler of a kind; 14 where the kind names no distribution.
 #[no_mangle]
 pub extern "C" fn beside_make(kind: u32, a: usize, b: usize, p: f64, q: f64) -> u32
-    ensures { λ r. ⌜ r ≡ numberOf (named kind a b p q) ⌝ }
+    ensures { λ r. ⌜ r ≡ preparingAny (named kind a b p q) .number ⌝ }
 {
-    kind::by_kind(kind, a, b, p, q).making_number()
+    kind::by_kind(kind, a, b, p, q).prepare().number
 }

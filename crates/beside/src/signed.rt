@@ -1,5 +1,6 @@
 // The call that draws signed coefficients.
 use crate::kind::by_kind;
+use prepared_draws::signed::sample_signed_to;
 ghost use mathlib.Core.Bool.{true};
 ghost use mathlib.Core.Path.{_≡_};
 ghost use Rattle.distr.specs.Distribution.{Distr};
@@ -29,8 +30,8 @@ pub extern "C" fn beside_signed(
         (lent (now (bounds .entry)) (now (endpoints .entry)) (now (heights .entry)) (now (curve .entry)))
         (now (words .entry)) place (now (output .entry))) ⌝ }
 {
-    let distr = by_kind(kind, a, b, p, q);
-    let answer = distr.draw_signed(output, bounds, endpoints, heights, curve, words, place);
+    let by = by_kind(kind, a, b, p, q).prepare();
+    let answer = sample_signed_to(output, by, bounds, endpoints, heights, curve, words, place);
     *new_place = answer.place;
     answer.number
 }

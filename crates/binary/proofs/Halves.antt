@@ -1,52 +1,51 @@
 -- A word is below an end where its half is below the end's, both rounded up for an odd end and else down.
 use mathlib.Core.Path.{_≡_, refl}
-use mathlib.Core.Logic.{_⊎_, inl, inr, ⊎-elim}
 use mathlib.Core.Bool.{Bool, true, false}
-use Prim.Native.Nat.{ℕ, zero, suc, _+_, _*_, _-_, _/_, _%_, _^_, _<_, _≤_}
+use Prim.Native.Nat.{ℕ, _+_, _-_, _/_, _%_, _^_, _<_, _≤_}
 use native.Mathlib.Omega.{arith}
 use borrow.Author.Tests.{ltb-true, ltb-false}
 use lib.Bits.{bitAnd, and-mask, and-zero-r}
 use lib.Dec.{ltb}
 use mir.Val.{boolByte}
-use Rattle.binary.specs.Below.{oneBelow}
+use Rattle.binary.specs.Below.{oneBelow, endOf}
 
--- the last bit of w, for an odd end, else 0
-last-bit : (w bit : ℕ) → bit < 2 → ((bit ≡ 0) × (bitAnd w bit ≡ 0)) ⊎ ((bit ≡ 1) × (bitAnd w bit ≡ w % 2))
-last-bit w zero h = inl (refl, and-zero-r w)
-last-bit w (suc zero) h = inr (refl, and-mask w 1)
-last-bit w (suc (suc bit)) h = absurd (omega arith)
+-- an end with its own last bit
+pub even-end : (below : ℕ) → below % 2 ≡ 0 → endOf below false ≡ below
+even-end below e = omega arith
 
-module _ (end w : ℕ) (small : w < 2 ^ 64) where
-  abbrev half : ℕ
-  half = w / 2 + bitAnd w (end % 2)
+pub odd-end : (below : ℕ) → (below % 2 ≡ 0 → ⊥) → endOf below true ≡ below
+odd-end below e = omega arith
 
-  abbrev bound : ℕ
-  bound = 2 ^ 63 - 1 + end / 2 + end % 2
+-- the half of a word, and what it is taken from
+abbrev half : Bool → ℕ → ℕ
+half odd w = w / 2 + bitAnd w (boolByte odd)
 
-  abbrev cases : ((end % 2 ≡ 0) × (bitAnd w (end % 2) ≡ 0)) ⊎ ((end % 2 ≡ 1) × (bitAnd w (end % 2) ≡ w % 2))
-  cases = last-bit w (end % 2) (omega arith)
+abbrev bound : ℕ → Bool → ℕ
+bound below odd = 2 ^ 63 - 1 + below / 2 + boolByte odd
 
-  -- the half of a word is at most 2^63, and no more than the bound
-  pub half-fits : half < 2 ^ 64
-  half-fits = ⊎-elim (λ p. omega arith) (λ p. omega arith) cases
+pub bit-most : (b : Bool) → boolByte b ≤ 1
+bit-most true = omega arith
+bit-most false = omega arith
 
-  pub half-within : half ≤ bound
-  half-within = ⊎-elim (λ p. omega arith) (λ p. omega arith) cases
+module _ (w : ℕ) (small : w < 2 ^ 64) where
+  -- the half of a word is at most 2^63
+  half-most : (odd : Bool) → half odd w ≤ 2 ^ 63 - 1 + boolByte odd
+  half-most true = omega (arith, and-mask w 1)
+  half-most false = omega (arith, and-zero-r w)
+
+  pub half-fits : (odd : Bool) → half odd w < 2 ^ 64
+  half-fits odd = omega (arith, half-most odd, bit-most odd)
+
+  pub half-within : (below : ℕ) (odd : Bool) → half odd w ≤ bound below odd
+  half-within below odd = omega (arith, half-most odd)
 
   -- the bound leaves 2^63 or more where the word is below the end
-  pub half-tells : end < 2 ^ 64 → (bound - half) / 2 ^ 63 ≡ oneBelow end w
+  pub half-tells : (below : ℕ) (odd : Bool) → below < 2 ^ 64 → (bound below odd - half odd w) / 2 ^ 63 ≡ oneBelow (endOf below odd) w
   unfolding oneBelow
-  half-tells h = go (ltb w end) refl
+  half-tells below odd h = go odd (ltb w (endOf below odd)) refl
     where
-      go : (t : Bool) → ltb w end ≡ t → (bound - half) / 2 ^ 63 ≡ boolByte t
-      go true e = let l : w < end = ltb-true w end e in ⊎-elim (λ p. omega arith) (λ p. omega arith) cases
-      go false e = let l : end ≤ w = ltb-false w end e in ⊎-elim (λ p. omega arith) (λ p. omega arith) cases
-
--- an even end: what the bound leaves, without the last bit
-pub even-tells : (end w : ℕ) → w < 2 ^ 64 → end < 2 ^ 64 → (2 ^ 63 - 1 + end / 2 - w / 2) / 2 ^ 63 ≡ oneBelow (end / 2 * 2) w
-unfolding oneBelow
-even-tells end w small fits = go (ltb w (end / 2 * 2)) refl
-  where
-    go : (t : Bool) → ltb w (end / 2 * 2) ≡ t → (2 ^ 63 - 1 + end / 2 - w / 2) / 2 ^ 63 ≡ boolByte t
-    go true e = let l : w < end / 2 * 2 = ltb-true w (end / 2 * 2) e in omega arith
-    go false e = let l : end / 2 * 2 ≤ w = ltb-false w (end / 2 * 2) e in omega arith
+      go : (odd t : Bool) → ltb w (endOf below odd) ≡ t → (bound below odd - half odd w) / 2 ^ 63 ≡ boolByte t
+      go true true e = let l : w < endOf below true = ltb-true w (endOf below true) e in omega (arith, and-mask w 1)
+      go true false e = let l : endOf below true ≤ w = ltb-false w (endOf below true) e in omega (arith, and-mask w 1)
+      go false true e = let l : w < endOf below false = ltb-true w (endOf below false) e in omega (arith, and-zero-r w)
+      go false false e = let l : endOf below false ≤ w = ltb-false w (endOf below false) e in omega (arith, and-zero-r w)

@@ -50,6 +50,10 @@ position-put value (suc n) i h = go (ltb i (suc n)) refl
         ap (λ (j : ℕ). set (replicate (suc n) (value 0)) j (value 0)) (mul-zero i)
         ∙ sym (set-out (replicate (suc n) (value 0)) i (value 1) (omega (arith, ltb-false i (suc n) e, length-replicate (suc n) (value 0))))
 
+-- no whole 65537 in a size that an output has room for
+pub small-none : (size : ℕ) → size ≤ 65536 → size / 65537 ≡ 0
+small-none size h = omega arith
+
 -- what stands up to the end of a part that was filled
 front : {A : Type 0} (start size : ℕ) (out ys : List A) → start ≤ length out → length ys ≡ size
     → take (start + size) (putMid start (start + size - start) out ys) ≡ take start out ++ ys

@@ -6,3 +6,4 @@ pub mod draw;
 pub(crate) use output_i64::Encoding;
 pub(crate) use output_i64::Out;
 pub(crate) use output_i64::clear;
+pub(crate) use output_i64::fill;

@@ -2,6 +2,7 @@
 use crate::Encoding;
 use crate::Out;
 use crate::clear;
+use crate::fill;
 use distr::answer::Answer;
 use distr::answer::refused;
 use distr::answer::succeeded;
@@ -15,14 +16,30 @@ ghost use Rattle.distr.specs.Blocks.{blocksOf};
 ghost use Rattle.distr.specs.Draw.{outcome, settled};
 ghost use Rattle.output_u64.specs.Out.{zero, one, held};
 
+// The longest block that a loop of its own clears; a longer one is cleared by the library's call for that.
+const SHORT: usize = 32;
+
+// Writes zeros over a block. What is written over a short one is 0 by what is asked, not by the text: a loop over a plain 0 would be compiled to that
+// call too, which costs a short block more than its stores.
+fn blank(block: &mut [Out], nothing: usize)
+    requires { ⌜ nothing ≡ 0 ⌝ }
+    ensures { λ _. ⌜ now (block .exit) ≡ replicate (length (now (block .entry))) zero ⌝ }
+{
+    if block.len() <= SHORT {
+        fill(block, nothing as Out);
+    } else {
+        clear(block);
+    }
+}
+
 // Fills one block, which is lent as a part of the output: zeros, and a one at the position, unless that is past the block.
 // Such a position writes a zero at the first place, so that nothing branches on what was drawn.
-fn fill_block(block: &mut [Out], position: usize)
-    requires { ⌜ 0 < length (now block) ⌝ }
+fn fill_block(block: &mut [Out], position: usize, nothing: usize)
+    requires { ⌜ (0 < length (now block)) × (nothing ≡ 0) ⌝ }
     ensures { λ r. ⌜ now (block .exit) ≡ set (replicate (length (now (block .entry))) zero) position one ⌝ }
 {
     let size = block.len();
-    clear(block);
+    blank(block, nothing);
     let inside = (position < size) as usize;
     block[position * inside] = inside as Out;
 }
@@ -36,20 +53,21 @@ pub(crate) fn draw_blocks(
     words: &[u32],
     place: usize,
 ) -> Answer
-    requires { ⌜ (0 < «block_size») × (length (now output) % «block_size» ≡ 0) × (place ≤ length (now words)) ⌝ }
+    requires { ⌜ (0 < «block_size») × (length (now output) % «block_size» ≡ 0) × (place ≤ length (now words)) × («block_size» ≤ 65536) ⌝ }
     ensures { λ r. ⌜ (let n = length (now (output .entry)) in
         outcome r (now (output .exit))
         ≡ settled (held encoding) (length (now (words .entry))) place n
         (mapRead (blocksOf «block_size») (chooseEach (replicate (n / «block_size») choices) (drop place (now (words .entry)))))) ⌝ }
 {
     let n = output.len();
+    let nothing = block_size / 65537;
     let mut start = 0;
     let mut at = place;
     while start < n {
         match words::uniform_below(words, at, choices) {
             Taken::Got { value, place: next } => {
                 let end = start + block_size;
-                fill_block(&mut output[start..end], value as usize);
+                fill_block(&mut output[start..end], value as usize, nothing);
                 start = end;
                 at = next;
             }

@@ -6,3 +6,4 @@ pub mod draw;
 pub(crate) use output_u64::Encoding;
 pub(crate) use output_u64::Out;
 pub(crate) use output_u64::clear;
+pub(crate) use output_u64::fill;

@@ -1,7 +1,7 @@
 -- The search of a cumulative table: up from a place that is not past the magnitude, until the next bound is above the word.
 use mathlib.Core.Path.{_≡_, refl, ap, _∙_}
 use mathlib.Core.Logic.{⊎-elim}
-use mathlib.Core.Bool.{Bool, true, false}
+use mathlib.Core.Bool.{Bool, true, false, cond}
 use mathlib.Core.List.{List}
 use Prim.Native.Nat.{ℕ, zero, suc, _+_, _-_, _*_, _/_, _%_, _^_, _<_, _≤_}
 use native.Mathlib.Nat.{add-comm, div-add-mod', eq-or-lt-of-le}
@@ -10,7 +10,14 @@ use native.Mathlib.Omega.{arith}
 use lib.Dec.{T, leb, ltb, eqb}
 use lib.ListN.{length, getD, take, drop, set, replicate, length-set, length-replicate, length-take, length-drop, drop-of-length-le}
 use lib.Seq.{drop-cons, getD-take, getD-drop, getD-set-same, getD-set-other}
+use lib.IntN.{ℤ, pos}
+use lib.Signed.{mag}
+use mir.Syntax.{w64}
+use mir.Val.{Fits, toZ, ofZ}
+use mir.Facts.{toZ-ofZ}
+use borrow.Author.Needs.{sfits-of}
 use borrow.Author.Tests.{leb-true, leb-false, ltb-true, ltb-false, lt-ltb, le-ltb}
+use Rattle.distr.specs.Encoding.{encodeWith}
 use Rattle.distr.specs.Gaussian.{cumulativeTable, magnitude, withSign, cumulativeValue}
 use Rattle.distr.proofs.Rising.{Rising, is-rising, Largest, largest, rises}
 use Rattle.cdt.specs.declared.index.Sampled.{Sampled}
@@ -62,7 +69,7 @@ module _ (bounds : List ℕ) (top : ℕ) (t : T (cumulativeTable top bounds)) wh
   table : Rising (top + 2) (2 ^ 64 - 1) bounds
   table = is-rising (top + 2) (2 ^ 64 - 1) bounds t
 
-  pub table-length : length bounds ≡ top + 2
+  table-length : length bounds ≡ top + 2
   table-length = table .long
 
   found : (w : ℕ) → Largest bounds top w (magnitude bounds top w)
@@ -136,8 +143,19 @@ module _ (bounds : List ℕ) (top : ℕ) (t : T (cumulativeTable top bounds)) wh
   guide-entry (suc k) = rw (guide-entry k) (found-from (suc k * 2 ^ 56) _ (grows (k * 2 ^ 56) (suc k * 2 ^ 56) (omega arith)))
 
   -- what is sampled by the guide of these intervals is the rule's coefficient
-  module _ (size : ℕ) (all : size ≡ top) (guide : List ℕ) (made : (k : ℕ) → k < 256 → getD guide k 0 ≡ guideAt (intervalEnds size bounds) k)
-      (w : ℕ) (small : w < 2 ^ 64) {s : Sampled} (e : s ≡ sampledBy (intervalEnds size bounds) guide w) where
+  -- the bound after the top's is there
+  pub last-within : top + 1 ≤ length bounds
+  last-within = omega (arith, table-length)
+
+  pub last-fits : length bounds * 8 < 2 ^ 63 → Fits w64 (top + 1)
+  last-fits room = record { fits = omega (arith, table-length) }
+
+  -- the coefficient of a word, by the ends as a draw cuts them out of the table and by their guide
+  module _ (guide : List ℕ) (made : (k : ℕ) → k < 256 → getD guide k 0 ≡ guideAt (intervalEnds (top + 1 - 1) bounds) k)
+      (w : ℕ) (small : w < 2 ^ 64) {s : Sampled} (e : s ≡ sampledBy (intervalEnds (top + 1 - 1) bounds) guide w) where
+    all : top + 1 - 1 ≡ top
+    all = omega arith
+
     start : getD guide (w / 2 ^ 56) 0 ≤ magnitude bounds top w
     start =
         rw (made (w / 2 ^ 56) (omega arith), all, guide-entry (w / 2 ^ 56))
@@ -146,5 +164,15 @@ module _ (bounds : List ℕ) (top : ℕ) (t : T (cumulativeTable top bounds)) wh
     reached : s .magnitude ≡ magnitude bounds top w
     reached = rw (e, all) (found-from w (getD guide (w / 2 ^ 56) 0) start)
 
-    pub sampled-held : (s .magnitude ≤ top) × (withSign (s .positive) (s .magnitude) ≡ cumulativeValue top bounds w)
-    sampled-held = (rw reached (magnitude-top w), rw (reached, e))
+    value : withSign (s .positive) (s .magnitude) ≡ cumulativeValue top bounds w
+    value = rw (reached, e)
+
+    -- as an i64 holds it, which holds both signs of it, and as a residue
+    pub sampled-signed : {r : ℤ} → mag r < 2 ^ 63 → length bounds * 8 < 2 ^ 63
+        → r ≡ cond (ltb (s .magnitude) (2 ^ 63)) (withSign (s .positive) (s .magnitude)) (pos 0) → toZ w64 (ofZ w64 r) ≡ cumulativeValue top bounds w
+    sampled-signed fits room q =
+        let below : s .magnitude < 2 ^ 63 = rw reached (omega (arith, magnitude-top w, table-length)) in
+        toZ-ofZ (sfits-of fits) ∙ (rw (lt-ltb (s .magnitude) (2 ^ 63) below) at q) ∙ value
+
+    pub sampled-encoded : (one : ℕ) {r : ℕ} → r ≡ encodeWith one (withSign (s .positive) (s .magnitude)) → r ≡ encodeWith one (cumulativeValue top bounds w)
+    sampled-encoded one q = q ∙ ap (encodeWith one) value

@@ -2,8 +2,8 @@
 use mathlib.Core.Path.{_≡_, refl, sym, ap, subst, _∙_}
 use mathlib.Core.Bool.{Bool, true, false, cond, _&&_}
 use mathlib.Core.List.{List, [], _∷_}
-use Prim.Native.Nat.{ℕ, zero, suc, _+_, _-_, _*_, _/_, _^_, _<_, _≤_}
-use native.Mathlib.Nat.{add-zero, add-suc, suc-add, zero-add, pow-suc, mul-mul-mul-comm, le-of-suc-le-suc, le-of-lt, lt-of-lt-of-le, not-suc-le-zero}
+use Prim.Native.Nat.{ℕ, zero, suc, _+_, _-_, _*_, _/_, _%_, _^_, _<_, _≤_}
+use native.Mathlib.Nat.{add-zero, add-suc, suc-add, pow-suc, mul-mul-mul-comm, le-of-suc-le-suc, le-of-lt, lt-of-lt-of-le, not-suc-le-zero}
 use native.Mathlib.Omega.{arith}
 use borrow.Author.Tests.{leb-true, leb-false, le-leb, lt-leb, eq-eqb}
 use lib.Dec.{T, leb, eqb, eqb→eq, lit≤}
@@ -102,18 +102,30 @@ nearest eta e =
       rounded-up = sides ∙ deviation-of eta (range .1);
     }
 
--- ---- the deviations as a table: k entries, the first for eta
-abbrev pub table : ℕ → ℕ → List Float
+-- ---- the deviations as a table: k rows of three, the first for eta
+abbrev three : ℕ → List Float
+three eta = rounded eta ∷ rounded (eta + 1) ∷ rounded (eta + 2) ∷ []
+
+abbrev pub table : ℕ → ℕ → List (List Float)
 table zero eta = []
-table (suc k) eta = rounded eta ∷ table k (suc eta)
+table (suc k) eta = three eta ∷ table k (eta + 3)
 
-entry : (k i j : ℕ) → j < k → getD (table k i) j nan ≡ rounded (i + j)
-entry zero i j h = absurd (not-suc-le-zero h)
-entry (suc k) i zero h = ap rounded (sym (add-zero i))
-entry (suc k) i (suc j) h = entry k (suc i) j (le-of-suc-le-suc h) ∙ ap rounded (suc-add i j ∙ sym (add-suc i j))
+row : (k i j : ℕ) → j < k → getD (table k i) j [] ≡ three (i + 3 * j)
+row zero i j h = absurd (not-suc-le-zero h)
+row (suc k) i zero h = ap three (omega arith)
+row (suc k) i (suc j) h = row k (i + 3) j (le-of-suc-le-suc h) ∙ ap three (omega arith)
 
-pub table-value : (eta : ℕ) → eta ≤ 32 → getD (table 33 0) eta nan ≡ binomialDeviation eta
-table-value eta h = entry 33 0 eta (omega arith) ∙ ap rounded (zero-add eta) ∙ deviation-of eta h
+entry : (i j : ℕ) → j < 3 → getD (three i) j nan ≡ rounded (i + j)
+entry i zero h = ap rounded (sym (add-zero i))
+entry i (suc zero) h = refl
+entry i (suc (suc zero)) h = refl
+entry i (suc (suc (suc j))) h = absurd (omega arith)
+
+pub table-value : (eta : ℕ) → eta ≤ 32 → getD (getD (table 11 0) (eta / 3) []) (eta % 3) nan ≡ binomialDeviation eta
+table-value eta h =
+    ap (λ (r : List Float). getD r (eta % 3) nan) (row 11 0 (eta / 3) (omega arith))
+    ∙ entry (0 + 3 * (eta / 3)) (eta % 3) (omega arith)
+    ∙ ap rounded (omega arith) ∙ deviation-of eta h
 
 pub no-deviation : (eta : ℕ) → 32 < eta → literal 0 1 ≡ binomialDeviation eta
 no-deviation eta h = rw (lt-leb eta 32 h)

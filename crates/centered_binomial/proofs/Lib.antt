@@ -2,3 +2,4 @@
 pub mod Made
 pub mod Counting
 pub mod Deviations
+pub mod Drawing

@@ -1,15 +1,16 @@
 // Residues of a modulus, -1 as modulus - 1. Numbers in order: those of making (1 or 5), then 22, 6, 7 or 8, 9, 23.
 use distr::answer::Answer;
-use distr::answer::refused;
 use distr::secret_key_distr::BlockOccupancy;
 use distr::secret_key_distr::SecretKeyDistr;
-use secret_key_sampler::SecretKeySampler;
+use prepared_draws::encoded;
+use prepared_draws::encoded::ResidueMethod;
+use secret_key_method::prepare::prepare;
 ghost use mathlib.Core.Path.{_≡_};
 ghost use Rattle.distr.specs.declared.secret_key_distr.SecretKeyDistr.the-variants.{UniformBinary, Binary, SparseTernary, UniformTernary, Ternary, FixedHammingWeightBinary, BlockBinary, FixedHammingWeightTernary, FixedCompositionTernary};
 ghost use Rattle.distr.specs.Distribution.{secret};
 ghost use Rattle.distr.specs.Draw.{outcome, encodedAtOnce};
 
-// Makes the sampler of a distribution and draws residues by it; the number of making comes before those of the draw.
+// Prepares the method of a distribution and draws residues by it; the number of making comes before those of the draw.
 fn sample_at_once(
     output: &mut [u64],
     modulus: u64,
@@ -19,13 +20,9 @@ fn sample_at_once(
 ) -> Answer
     ensures { λ r. ⌜ outcome r (now (output .exit)) ≡ encodedAtOnce (secret distr) modulus (now (words .entry)) place (now (output .entry)) ⌝ }
 {
-    let made = SecretKeySampler::try_new(distr);
-    let number = made.number;
-    if number != 0 {
-        return refused(number, place);
-    }
-    let sampler = made.sampler;
-    sampler.sample_encoded_to(output, modulus, &[], &[], &[], &[], words, place)
+    let prepared = prepare(distr);
+    let by = ResidueMethod { prepared, modulus };
+    encoded::sample_encoded_to(output, by, &[], &[], &[], &[], words, place)
 }
 
 // 0 and 1, each with probability 1/2.
@@ -107,13 +104,8 @@ pub fn sample_uniform_ternary_values_to(
 ) -> Answer
     ensures { λ r. ⌜ outcome r (now (output .exit)) ≡ encodedAtOnce (secret UniformTernary) modulus (now (words .entry)) place (now (output .entry)) ⌝ }
 {
-    sample_at_once(
-        output,
-        modulus,
-        SecretKeyDistr::UniformTernary,
-        words,
-        place,
-    )
+    let distr = SecretKeyDistr::UniformTernary;
+    sample_at_once(output, modulus, distr, words, place)
 }
 
 // -1 and 1 with the given probabilities, else 0. Bad probabilities give 1.

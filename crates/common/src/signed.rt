@@ -1,25 +1,21 @@
 // Signed coefficients, -1 as itself. Numbers in order: those of making (1 or 5), then 22, 6, 7 or 8, 23.
 use distr::answer::Answer;
-use distr::answer::refused;
 use distr::secret_key_distr::BlockOccupancy;
 use distr::secret_key_distr::SecretKeyDistr;
-use secret_key_sampler::SecretKeySampler;
+use prepared_draws::signed;
+use secret_key_method::prepare::prepare;
 ghost use mathlib.Core.Path.{_≡_};
 ghost use Rattle.distr.specs.declared.secret_key_distr.SecretKeyDistr.the-variants.{UniformBinary, Binary, SparseTernary, UniformTernary, Ternary, FixedHammingWeightBinary, BlockBinary, FixedHammingWeightTernary, FixedCompositionTernary};
 ghost use Rattle.distr.specs.Distribution.{secret};
 ghost use Rattle.distr.specs.Draw.{outcome, signedAtOnce};
 
-// Makes a sampler for this call alone and draws by it: the number of making, or the draw. No distribution here uses a table, so none is lent.
+// Prepares the method of a distribution for this call alone and draws by it: the number of making, or the draw. No distribution here uses a table, so none
+// is lent.
 fn sample_at_once(output: &mut [i64], distr: SecretKeyDistr, words: &[u32], place: usize) -> Answer
     ensures { λ r. ⌜ outcome r (now (output .exit)) ≡ signedAtOnce (secret distr) (now (words .entry)) place (now (output .entry)) ⌝ }
 {
-    let made = SecretKeySampler::try_new(distr);
-    let number = made.number;
-    if number != 0 {
-        return refused(number, place);
-    }
-    let sampler = made.sampler;
-    sampler.sample_signed_to(output, &[], &[], &[], &[], words, place)
+    let by = prepare(distr);
+    signed::sample_signed_to(output, by, &[], &[], &[], &[], words, place)
 }
 
 // 0 and 1, each with probability 1/2.

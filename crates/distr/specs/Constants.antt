@@ -3,46 +3,6 @@ use Prim.Native.Nat.{ℕ}
 use mathlib.Core.Bool.{false}
 use lib.Ieee.{Float, binary64, round}
 
--- ---- limits
-
--- The f64 nearest to a fraction, as the compiler reads a literal: 0.7 is `literal 7 10`.
-abbrev pub literal : ℕ → ℕ → Float
-literal a b = round binary64 false a b
-
--- "Output longer than 65,536."
-abbrev pub outputLimit : ℕ
-outputLimit = 65536
-
--- "Eta outside 1..32."
-abbrev pub etaLimit : ℕ
-etaLimit = 32
-
--- "Deviation … below 0.7."
-abbrev pub leastDeviation : Float
-leastDeviation = literal 7 10
-
--- "⌊deviation × 12.0⌋."
-abbrev pub tailCut : Float
-tailCut = literal 12 1
-
--- "M ≤ 255 uses a lent cumulative table."
-abbrev pub cumulativeLimit : ℕ
-cumulativeLimit = 255
-
--- "Support above 4,095."
-abbrev pub supportLimit : ℕ
-supportLimit = 4095
-
--- "Reads standard input, at most 65,536 bytes"; "n over 4,096, over 8,192 words."
-abbrev pub sheetBytes : ℕ
-sheetBytes = 65536
-
-abbrev pub sheetCoefficients : ℕ
-sheetCoefficients = 4096
-
-abbrev pub sheetWords : ℕ
-sheetWords = 8192
-
 -- ---- "What a call hands back": the numbers
 
 -- "1 a probability not finite, outside 0..1, or negative > 1.0 − positive in f64."
@@ -112,3 +72,43 @@ placePastEnd = 22
 -- "23 the rules need a word that is not there."
 abbrev pub outOfWords : ℕ
 outOfWords = 23
+
+-- ---- limits
+
+-- The f64 nearest to a fraction, as the compiler reads a literal: 0.7 is `literal 7 10`.
+abbrev pub literal : ℕ → ℕ → Float
+literal a b = round binary64 false a b
+
+-- "Output longer than 65,536."
+abbrev pub outputLimit : ℕ
+outputLimit = 65536
+
+-- "Eta outside 1..32."
+abbrev pub etaLimit : ℕ
+etaLimit = 32
+
+-- "Deviation … below 0.7."
+abbrev pub leastDeviation : Float
+leastDeviation = literal 7 10
+
+-- "⌊deviation × 12.0⌋."
+abbrev pub tailCut : Float
+tailCut = literal 12 1
+
+-- "M ≤ 255 uses a lent cumulative table."
+abbrev pub cumulativeLimit : ℕ
+cumulativeLimit = 255
+
+-- "Support above 4,095."
+abbrev pub supportLimit : ℕ
+supportLimit = 4095
+
+-- "Reads standard input, at most 65,536 bytes"; "n over 4,096, over 8,192 words."
+abbrev pub sheetBytes : ℕ
+sheetBytes = 65536
+
+abbrev pub sheetCoefficients : ℕ
+sheetCoefficients = 4096
+
+abbrev pub sheetWords : ℕ
+sheetWords = 8192

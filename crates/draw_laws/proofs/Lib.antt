@@ -6,3 +6,4 @@ pub mod Bounds
 pub mod Crt
 pub mod Making
 pub mod Sampled
+pub mod Selecting

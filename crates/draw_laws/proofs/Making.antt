@@ -98,6 +98,18 @@ module _ {D M S R : Type 0} (k : Makes D M S R) where
     good-given f h =
         (k .distrOf s, rw (good-accepted h) (ap (k .made 0) (ap (k .holding (k .distrOf s)) (sym (good-method f h)) ∙ k .whole s)))
 
+    -- A draw by the sampler: 21 where making never gives it, else the draw by its method, which is the one prepared for its distribution.
+    pub tested-draw : T (fitting s) → {A : Type 0} (place : ℕ) (out : List A) (draw : M → Outcome A) (answer : Bool → Outcome A)
+        → record { number = neverMade; place = place; output = out } ≡ answer false
+        → (makingNumber (k .kind (k .distrOf s)) ≡ 0 → draw (k .prepared (k .distrOf s)) ≡ answer true)
+        → judged (refuse (not (good s)) neverMade) place out (draw (k .methodOf s)) ≡ answer (good s)
+    unfolding judged
+    tested-draw f place out draw answer unmade made = go (good s) refl
+      where
+        go : (b : Bool) → good s ≡ b → judged (refuse (not b) neverMade) place out (draw (k .methodOf s)) ≡ answer b
+        go true e = ap draw (good-method f (rw e tt)) ∙ made (good-number (rw e tt))
+        go false e = unmade
+
     -- What a test told, said of the sampler: by it 21 comes before one number more, and before what a draw answers.
     module _ {told : Bool} (e : told ≡ good s) where
       pub is-good : not told ≡ false → T (good s)
@@ -162,17 +174,9 @@ module _ {D M S R : Type 0} (k : Makes D M S R) where
       pub call-number : k .number m ≡ makingNumber (k .kind d)
       call-number = number-made ∙ sym (k .judges d)
 
-      pub call-refused : {A : Type 0} (place : ℕ) (out : List A) (drawn : Outcome A) → (k .number m ≡ 0 → ⊥)
-          → record { number = k .number m; place = place; output = out } ≡ judged (makingNumber (k .kind d)) place out drawn
-      unfolding judged
-      call-refused place out drawn never = rw (← call-number, ne-eqb (k .number m) 0 never)
-
-      pub call-drawn : {A : Type 0} (place : ℕ) (out : List A) (draw : Bool → Distr → Outcome A) → k .number m ≡ 0
-          → draw (good (k .sampler m)) (k .kind (k .distrOf (k .sampler m)))
-          ≡ judged (makingNumber (k .kind d)) place out (draw true (k .kind d))
-      unfolding judged
-      call-drawn place out draw z =
-          rw (← call-number, z, T-true (good (k .sampler m)) (good-made z), sampler-made z, k .distr-of d (k .prepared d))
+      -- what the sampler that is made draws by: its method passes, and is the one prepared
+      pub call-made : k .number m ≡ 0 → (good (k .sampler m) ≡ true) × (k .methodOf (k .sampler m) ≡ k .prepared d)
+      call-made z = (T-true (good (k .sampler m)) (good-made z), ap (k .methodOf) (sampler-made z) ∙ k .method-of d (k .prepared d))
 
     pub given-good : (s : S) → making d ≡ k .made 0 s → T (good s)
     given-good s h = subst (λ (t : S). T (good t)) (k .sampler-of 0 s) (good-made (k .made 0 s) (sym h) (k .number-of 0 s))

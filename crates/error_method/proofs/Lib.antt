@@ -1,5 +1,3 @@
--- Laws on preparing a method, on methods that have the same key, and on the draws by them.
+-- Laws on preparing the method of an error distribution, and on the method that is prepared.
 pub mod Preparing
-pub mod Same
-pub mod MethodFloats
-pub mod Methods
+pub mod Prepared

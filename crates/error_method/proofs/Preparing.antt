@@ -8,12 +8,13 @@ use Rattle.gaussian_core.specs.Made.{madeParameters}
 use Rattle.gaussian_core.proofs.Made.{made-number, made-parameters}
 use Rattle.centered_binomial.specs.Binomial.{making as makingBinomial}
 use Rattle.draw_laws.proofs.Making.{judged-same}
-use Rattle.error_method.specs.declared.PreparedErrorMethod.{PreparedErrorMethod}
-use Rattle.error_method.specs.declared.ErrorMethod.{ErrorMethod}
-use Rattle.error_method.specs.declared.ErrorMethod.the-variants.{Gaussian, CenteredBinomial, Empty}
-use Rattle.error_method.specs.Method.{prepared, judgedMethod, preparing}
+use Rattle.methods.specs.declared.PreparedMethod.{PreparedMethod}
+use Rattle.methods.specs.declared.SamplingMethod.{SamplingMethod}
+use Rattle.methods.specs.declared.SamplingMethod.the-variants.{Gaussian, CenteredBinomial, Empty}
+use Rattle.methods.specs.Method.{judgedMethod}
+use Rattle.error_method.specs.Method.{prepared, preparing}
 
-abbrev hold : ℕ → ErrorMethod → PreparedErrorMethod
+abbrev hold : ℕ → SamplingMethod → PreparedMethod
 hold number method = record { number = number; method = method }
 
 pub prepares-gaussian : (d : Float) → judgedMethod (madeParameters d .number) (Gaussian (madeParameters d .parameters)) ≡ preparing (Distr.Gaussian d)

@@ -1,3 +1,2 @@
--- The method that making prepares for an error distribution, and the draws by a method.
+-- What is prepared for an error distribution.
 pub mod Method
-pub mod Drawing

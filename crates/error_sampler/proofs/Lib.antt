@@ -1,6 +1,3 @@
--- Laws on making an error sampler, on which samplers making gives, and on their draws.
+-- Laws on making an error sampler, and on which samplers making gives.
 pub mod Made
 pub mod SamplerFloats
-pub mod Residues
-pub mod CrtDraws
-pub mod Calls

@@ -6,8 +6,10 @@ use lib.Ieee.Fits.{and-i}
 use mir.Val.{Val}
 use denote.Shadow.{shadow}
 use denote.Struct.Declared.{row}
-use Rattle.error_method.specs.Method.{prepared, methodKey}
-use Rattle.error_method.proofs.MethodFloats.{method-fits, distr-fits}
+use Rattle.methods.specs.Keys.{methodKey}
+use Rattle.error_method.specs.Method.{prepared}
+use Rattle.methods.proofs.MethodFloats.{method-fits}
+use Rattle.error_method.proofs.Prepared.{distr-fits}
 use Rattle.error_sampler.specs.declared.ErrorSampler.{ErrorSampler}
 use Rattle.error_sampler.proofs.ErrorSampler.{the-type as sampler-type}
 use Rattle.error_sampler.proofs.Made.{fitting}

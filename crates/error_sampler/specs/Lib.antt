@@ -1,4 +1,2 @@
--- Making an error sampler, which samplers making gives, its standard deviation, and the numbers of its draws.
+-- Making an error sampler, which samplers making gives, and its standard deviation.
 pub mod Sampler
-pub mod Numbers
-pub mod Crt

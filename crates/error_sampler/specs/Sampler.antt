@@ -6,9 +6,9 @@ use Rattle.distr.specs.declared.error_distribution.ErrorDistribution.{ErrorDist
 use Rattle.distr.specs.declared.error_distribution.ErrorDistribution.the-variants as Distr
 use Rattle.distr.specs.Making.{errorNumber}
 use Rattle.centered_binomial.specs.Deviation.{binomialDeviation}
-use Rattle.methods.specs.Keys.{sameKey}
-use Rattle.error_method.specs.declared.ErrorMethod.the-variants.{Empty}
-use Rattle.error_method.specs.Method.{prepared, methodKey}
+use Rattle.methods.specs.declared.SamplingMethod.the-variants.{Empty}
+use Rattle.methods.specs.Keys.{methodKey, sameKey}
+use Rattle.error_method.specs.Method.{prepared}
 use Rattle.error_sampler.specs.declared.ErrorSampler.{ErrorSampler}
 use Rattle.error_sampler.specs.declared.MadeErrorSampler.{MadeErrorSampler}
 

@@ -1,16 +1,15 @@
 // Behind primus_distr, by which callers reach it: error coefficients from lent words, by a prepared sampler with signed, encoded and
 // CRT output.
-mod crt;
-mod encoded;
-mod signed;
+mod draws;
 
 use centered_binomial::deviation::standard_deviation as binomial_deviation;
 use distr::error_distribution::ErrorDistribution;
-pub use error_method::ErrorMethod;
-use error_method::maximum_magnitude;
-use error_method::method_key;
 use error_method::prepare;
-use methods::same_key;
+use methods::PreparedMethod;
+use methods::SamplingMethod;
+use methods::key::method_key;
+use methods::key::same_key;
+use methods::tested;
 use methods::validated_modulus;
 ghost use mathlib.Core.Path.{_≡_};
 ghost use mathlib.Core.Bool.{not};
@@ -18,13 +17,13 @@ ghost use mathlib.Core.List.{[], _∷_};
 ghost use Rattle.distr.specs.Distribution.{error};
 ghost use Rattle.distr.specs.Making.{refuse, largest};
 ghost use Rattle.distr.specs.Numbers.{firstOf, modulusNumber};
-ghost use Rattle.error_method.specs.Method.{magnitudeOf};
+ghost use Rattle.methods.specs.Method.{testedMethod, magnitudeOf};
 ghost use Rattle.error_sampler.specs.Sampler.{making, isMade, deviationOf};
 
 // A prepared sampler. Its fields are public, so a draw judges first whether making gives it (21).
 pub struct ErrorSampler {
     pub distribution: ErrorDistribution,
-    pub method: ErrorMethod,
+    pub method: SamplingMethod,
 }
 
 // What making hands back: number 0 and the sampler, or the number that refuses and the empty sampler.
@@ -54,7 +53,7 @@ impl ErrorSampler {
                 number,
                 sampler: ErrorSampler {
                     distribution: ErrorDistribution::CenteredBinomial { eta: 0 },
-                    method: ErrorMethod::Empty,
+                    method: SamplingMethod::Empty,
                 },
             }
         }
@@ -73,7 +72,7 @@ impl ErrorSampler {
         ensures { λ r. ⌜ r ≡ magnitudeOf (self .method) ⌝ }
     {
         let method = self.method;
-        maximum_magnitude(method)
+        methods::maximum_magnitude(method)
     }
 
     // The Gaussian's deviation, or the f64 nearest to the centered binomial's, the root of eta / 2. The empty sampler has eta 0, and 0.0.
@@ -93,7 +92,16 @@ impl ErrorSampler {
     {
         let made = is_made(self);
         let method = self.method;
-        validated_modulus(made, maximum_magnitude(method), modulus)
+        validated_modulus(made, methods::maximum_magnitude(method), modulus)
+    }
+
+    // What the sampler draws by: its method, with 21 where making never gives the sampler.
+    pub fn prepared(self) -> PreparedMethod
+        ensures { λ r. ⌜ r ≡ testedMethod (isMade self) (self .method) ⌝ }
+    {
+        let made = is_made(self);
+        let method = self.method;
+        tested(made, method)
     }
 }
 

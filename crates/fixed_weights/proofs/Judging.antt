@@ -9,14 +9,15 @@ use lib.ListN.{length, drop}
 use lib.IntN.{ℤ}
 use Rattle.distr.specs.Rule.{Rule, readBy}
 use Rattle.distr.specs.Numbers.{badWeight}
-use Rattle.distr.specs.Draw.{settled, ruleDraw}
+use Rattle.distr.specs.declared.answer.Answer.{Answer}
+use Rattle.distr.specs.Answers.{refusal}
+use Rattle.distr.specs.Draw.{outcome, settled, ruleDraw}
 use Rattle.distr.proofs.Drawing.{weight-fits}
 use Rattle.numbers.proofs.Refusing.{number-passed, rule-refused, rule-passed}
 use Rattle.fixed_weights.specs.declared.plans.Plan.{Plan}
 use Rattle.fixed_weights.specs.declared.plans.Planning.{Planning}
 use Rattle.fixed_weights.specs.declared.plans.Planning.the-variants.{By, Refused}
-use Rattle.fixed_weights.specs.Plans.{planning, weightNumber}
-use Rattle.fixed_weights.proofs.PlanRules.{Planned}
+use Rattle.fixed_weights.specs.Plans.{Ready, planning, weightNumber}
 
 -- a weight that fits is not refused
 pub not-heavy : (weight n : ℕ) → weight ≤ n → n < 2 ^ 64 → badWeight weight n ≡ 0
@@ -54,17 +55,24 @@ told-refused zero p {k} e = let no : Refused k ≡ By p = e in let z : _≡_ {A 
 told-refused (suc m) p {k} e = let same : Refused k ≡ Refused (suc m) = e in let is : k ≡ suc m = cc in (is, λ z. omega arith)
 
 -- what is known where a plan is handed back
-pub record Begun (rule : Rule) (wordCount place n weight : ℕ) (p : Plan) : Type 0 where
-  pub none : weightNumber wordCount place n weight ≡ 0
-  pub there : place ≤ wordCount
-  pub of-rule : Planned rule n p
+module _ (wordCount place n weight : ℕ) (p : Plan) {r : Planning} {q : Plan} (d : r ≡ planning (weightNumber wordCount place n weight) p) (e : r ≡ By q) where
+  told : (weightNumber wordCount place n weight ≡ 0) × (p ≡ q)
+  told = told-by (weightNumber wordCount place n weight) (sym e ∙ d)
 
-pub by-plan : {rule : Rule} (wordCount place n weight : ℕ) {r : Planning} {p q : Plan} → (weight ≤ n → Planned rule n p)
-    → r ≡ planning (weightNumber wordCount place n weight) p → r ≡ By q → Begun rule wordCount place n weight q
-by-plan {rule} wordCount place n weight of-rule d e =
-    let told = told-by (weightNumber wordCount place n weight) (sym e ∙ d) in
-    let good = passed {n = n} {weight = weight} refl (told .0) in
-    record { none = told .0; there = good .there; of-rule = subst (Planned rule n) (told .1) (of-rule (good .light)) }
+  pub plan-passed : weightNumber wordCount place n weight ≡ 0
+  plan-passed = told .0
+
+  good : Passed wordCount place n weight
+  good = passed refl plan-passed
+
+  pub plan-there : place ≤ wordCount
+  plan-there = good .there
+
+  pub plan-is : (P : Plan → Type 0) → (weight ≤ n → P p) → P q
+  plan-is P of = subst P (told .1) (of (good .light))
+
+  pub plan-ready : (weight ≤ n → Ready p n) → Ready q n
+  plan-ready = plan-is (λ p. Ready p n)
 
 module _ {A : Type 0} (write : List ℤ → List A) (rule : Rule) (words : List ℕ) (place weight : ℕ) (out : List A) {k : ℕ}
     (number : k ≡ weightNumber (length words) place (length out) weight) where
@@ -76,9 +84,9 @@ module _ {A : Type 0} (write : List ℤ → List A) (rule : Rule) (words : List 
   accepted = rule-passed write (badWeight weight (length out)) words place out number rule
 
 -- a number is handed back in a plan's stead
-pub by-number : {A : Type 0} (write : List ℤ → List A) (rule : Rule) (words : List ℕ) (place weight : ℕ) (out : List A) (p : Plan) {r : Planning} {k : ℕ}
-    → r ≡ planning (weightNumber (length words) place (length out) weight) p → r ≡ Refused k
-    → record { number = k; place = place; output = out } ≡ ruleDraw write (badWeight weight (length out)) rule words place out
-by-number write rule words place weight out p d e =
+pub plan-refused : {A : Type 0} (write : List ℤ → List A) (rule : Rule) (words : List ℕ) (place weight : ℕ) (out : List A) (p : Plan) {r : Planning} {k : ℕ}
+    {answer : Answer} → r ≡ planning (weightNumber (length words) place (length out) weight) p → r ≡ Refused k → answer ≡ refusal k place
+    → outcome answer out ≡ ruleDraw write (badWeight weight (length out)) rule words place out
+plan-refused write rule words place weight out p d e a =
     let told = told-refused (weightNumber (length words) place (length out) weight) p (sym e ∙ d) in
-    refused write rule words place weight out (told .0) (told .1)
+    rw a (refused write rule words place weight out (told .0) (told .1))

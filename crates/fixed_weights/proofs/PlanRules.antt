@@ -44,3 +44,10 @@ binary-planned h n l =
     by-test (leb h (n - h))
     (record { ready = omega arith; same = ap (λ (vs : List ℤ). insertion (pos 0) vs n) (append-nil (replicate h (pos 1))) })
     (record { ready = omega arith; same = ap (λ (vs : List ℤ). insertion (pos 1) vs n) (append-nil (replicate (n - h) (pos 0))) })
+
+-- each can be followed
+pub composition-ready : (minus ones n : ℕ) → minus + ones ≤ n → Ready (compositionPlan minus ones n) n
+composition-ready minus ones n h = composition-planned minus ones n h .ready
+
+pub binary-ready : (h n : ℕ) → h ≤ n → Ready (binaryPlan h n) n
+binary-ready h n l = binary-planned h n l .ready

@@ -1,10 +1,12 @@
 -- A draw by a plan is the draw by its rule, over how the output holds coefficients.
 use mathlib.Core.Path.{_≡_, refl, sym, ap, ap₂, _∙_}
 use mathlib.Core.List.{List, [], _∷_, _++_, map}
-use Prim.Native.Nat.{ℕ, zero, suc, _-_, _<_}
+use Prim.Native.Nat.{ℕ, zero, suc, _-_, _<_, _≤_}
 use native.Mathlib.Omega.{arith}
 use lib.ListN.{length, getD, drop, replicate, length-append, length-replicate}
 use lib.IntN.{ℤ, pos}
+use mir.Syntax.{w64}
+use mir.Val.{toZ, ofZ}
 use Rattle.distr.specs.Words.{Read, got, short, mapRead, chooseEach}
 use Rattle.distr.specs.Rule.{Rule, readBy}
 use Rattle.distr.specs.Packed.{minusOne}
@@ -14,15 +16,18 @@ use Rattle.distr.specs.Numbers.{badWeight}
 use Rattle.distr.specs.Draw.{Outcome, settled, ruleDraw}
 use Rattle.distr.proofs.Writing.{map-append, map-replicate, map-id}
 use Rattle.fixed_weights.specs.declared.plans.Plan.{Plan}
+use Rattle.fixed_weights.specs.declared.plans.Planning.{Planning}
+use Rattle.fixed_weights.specs.declared.plans.Planning.the-variants.{By}
 use Rattle.fixed_weights.specs.Table.{entries}
-use Rattle.fixed_weights.specs.Plans.{planned, codes, Ready, weightNumber}
+use Rattle.fixed_weights.specs.Plans.{planned, codes, Ready, planning, weightNumber}
 use Rattle.fixed_weights.specs.Inserting.{insertAll, placed, inserting}
 use Rattle.fixed_weights.proofs.PlanRules.{codeValue, planRule, Planned}
-use Rattle.fixed_weights.proofs.Judging.{accepted}
+use Rattle.fixed_weights.proofs.Judging.{plan-passed, plan-is, accepted}
 use Rattle.fixed_weights.proofs.Inserting.{rule-inserts, map-insert}
 
 -- how an output holds coefficients: `write` holds each by `val`, and a table holds −1, 1 and 0
-pub record Holds {A : Type 0} (z : A) (write : List ℤ → List A) (val : ℤ → A) (table : List A) : Type 0 where
+pub record Holds {A : Type 0} (z : A) (write : List ℤ → List A) (table : List A) : Type 0 where
+  pub val : ℤ → A
   pub writes : (cs : List ℤ) → write cs ≡ map val cs
   pub zeros : val (pos 0) ≡ z
   pub tabled : (c : ℕ) → c < 3 → getD table c z ≡ val (codeValue c)
@@ -34,44 +39,49 @@ by-codes val minus one z e f g (suc zero) l = f
 by-codes val minus one z e f g (suc (suc zero)) l = g
 by-codes val minus one z e f g (suc (suc (suc c))) l = absurd (omega arith)
 
--- coefficients as they are: signed output
-pub holds-signed : {minus : ℤ} → minus ≡ minusOne → Holds (pos 0) (λ (cs : List ℤ). cs) (λ (c : ℤ). c) (minus ∷ pos 1 ∷ pos 0 ∷ [])
-holds-signed {minus} e = record { writes = λ cs. sym (map-id cs); zeros = refl; tabled = by-codes (λ (c : ℤ). c) minus (pos 1) (pos 0) e refl refl }
+-- coefficients as they are: signed output, whose −1 is stored as bits
+pub holds-signed : {minus : ℤ} → minus ≡ minusOne → Holds (pos 0) (λ (cs : List ℤ). cs) (toZ w64 (ofZ w64 minus) ∷ pos 1 ∷ pos 0 ∷ [])
+holds-signed {minus} e = record {
+  val = λ c. c;
+  writes = λ cs. sym (map-id cs);
+  zeros = refl;
+  tabled = by-codes (λ (c : ℤ). c) (toZ w64 (ofZ w64 minus)) (pos 1) (pos 0) (ap (λ (v : ℤ). toZ w64 (ofZ w64 v)) e) refl refl;
+}
 
 -- −1 as the caller holds it: residues
-pub holds-residue : (one minus : ℕ) → minus ≡ encodeWith one minusOne → Holds 0 (map (encodeWith one)) (encodeWith one) (minus ∷ 1 ∷ 0 ∷ [])
-holds-residue one minus e = record { writes = λ cs. refl; zeros = refl; tabled = by-codes (encodeWith one) minus 1 0 e refl refl }
+pub holds-residue : {one minus : ℕ} → minus ≡ encodeWith one minusOne → Holds 0 (map (encodeWith one)) (minus ∷ 1 ∷ 0 ∷ [])
+holds-residue {one} {minus} e = record { val = encodeWith one; writes = λ cs. refl; zeros = refl; tabled = by-codes (encodeWith one) minus 1 0 e refl refl }
 
-module _ {A : Type 0} {z : A} {write : List ℤ → List A} {val : ℤ → A} {table : List A} (h : Holds z write val table) where
+module _ {A : Type 0} {z : A} {write : List ℤ → List A} {table : List A} (h : Holds z write table) where
   -- a reading settled is a reading placed
-  pub settled-placed : (wordCount place n : ℕ) (r : Read (List ℤ)) → settled write wordCount place n r ≡ placed z wordCount place n (mapRead (map val) r)
+  pub settled-placed : (wordCount place n : ℕ) (r : Read (List ℤ)) → settled write wordCount place n r ≡ placed z wordCount place n (mapRead (map (h .val)) r)
   unfolding settled placed mapRead
   settled-placed wordCount place n (got cs rest) = rw (h .writes cs)
-  settled-placed wordCount place n short = rw (h .writes (replicate n (pos 0)), map-replicate val n (pos 0), h .zeros)
+  settled-placed wordCount place n short = rw (h .writes (replicate n (pos 0)), map-replicate (h .val) n (pos 0), h .zeros)
 
   -- a plan's copies, from the table
-  copies : (m c : ℕ) → c < 3 → map val (replicate m (codeValue c)) ≡ replicate m (getD table c z)
-  copies m c l = map-replicate val m (codeValue c) ∙ ap (replicate m) (sym (h .tabled c l))
+  copies : (m c : ℕ) → c < 3 → map (h .val) (replicate m (codeValue c)) ≡ replicate m (getD table c z)
+  copies m c l = map-replicate (h .val) m (codeValue c) ∙ ap (replicate m) (sym (h .tabled c l))
 
   inserted-values : (p : Plan) → p .first < 3 → p .second < 3
-      → map val (replicate (p .firsts) (codeValue (p .first)) ++ replicate (p .seconds) (codeValue (p .second))) ≡ entries table z (codes p)
+      → map (h .val) (replicate (p .firsts) (codeValue (p .first)) ++ replicate (p .seconds) (codeValue (p .second))) ≡ entries table z (codes p)
   inserted-values p k l =
       let entry : ℕ → A = λ d. getD table d z in
-      map-append val (replicate (p .firsts) (codeValue (p .first))) (replicate (p .seconds) (codeValue (p .second)))
+      map-append (h .val) (replicate (p .firsts) (codeValue (p .first))) (replicate (p .seconds) (codeValue (p .second)))
       ∙ ap₂ (λ (a b : List A). a ++ b) (copies (p .firsts) (p .first) k ∙ sym (map-replicate entry (p .firsts) (p .first)))
       (copies (p .seconds) (p .second) l ∙ sym (map-replicate entry (p .seconds) (p .second)))
       ∙ sym (map-append entry (replicate (p .firsts) (p .first)) (replicate (p .seconds) (p .second)))
 
-  plan-inserts : (n : ℕ) (p : Plan) (ws : List ℕ) → Ready p n → mapRead (map val) (readBy (planRule p n) ws) ≡ inserting table z p n ws
+  plan-inserts : (n : ℕ) (p : Plan) (ws : List ℕ) → Ready p n → mapRead (map (h .val)) (readBy (planRule p n) ws) ≡ inserting table z p n ws
   plan-inserts n p ws ready =
       let values : List ℤ = replicate (p .firsts) (codeValue (p .first)) ++ replicate (p .seconds) (codeValue (p .second)) in
       let size : length values ≡ planned p = simp (length-append, length-replicate) in
       let left : ℕ = n - length values in
       let xs : List ℤ = replicate left (codeValue (p .fill)) in
-      ap (λ (k : ℕ). mapRead (map val) (mapRead (λ ss. insertEach values ss xs) (chooseEach (countUp (suc k) (length values)) ws)))
+      ap (λ (k : ℕ). mapRead (map (h .val)) (mapRead (λ ss. insertEach values ss xs) (chooseEach (countUp (suc k) (length values)) ws)))
       (sym (length-replicate left (codeValue (p .fill))))
-      ∙ ap (mapRead (map val)) (rule-inserts values xs ws)
-      ∙ map-insert val values xs ws
+      ∙ ap (mapRead (map (h .val))) (rule-inserts values xs ws)
+      ∙ map-insert (h .val) values xs ws
       ∙ ap₂ (λ (vs ys : List A). insertAll vs ys ws) (inserted-values p (ready .first-code) (ready .second-code))
       (copies left (p .fill) (ready .fill-code) ∙ ap (λ (k : ℕ). replicate (n - k) (getD table (p .fill) z)) size)
 
@@ -80,12 +90,15 @@ module _ {A : Type 0} {z : A} {write : List ℤ → List A} {val : ℤ → A} {t
       → placed z wordCount place n (inserting table z p n ws) ≡ settled write wordCount place n (readBy rule ws)
   plan-settles rule n p wordCount place ws of-rule =
       ap (placed z wordCount place n) (sym (plan-inserts n p ws (of-rule .ready)))
-      ∙ ap (λ (r : Rule). placed z wordCount place n (mapRead (map val) (readBy r ws))) (of-rule .same)
+      ∙ ap (λ (r : Rule). placed z wordCount place n (mapRead (map (h .val)) (readBy r ws))) (of-rule .same)
       ∙ sym (settled-placed wordCount place n (readBy rule ws))
 
-  pub plan-draws : {rule : Rule} {p : Plan} {k : ℕ} {o : Outcome A} (words : List ℕ) (place weight : ℕ) (out : List A)
-      → k ≡ weightNumber (length words) place (length out) weight → k ≡ 0 → Planned rule (length out) p
-      → o ≡ placed z (length words) place (length out) (inserting table z p (length out) (drop place words))
+  pub plan-draws : {rule : Rule} {o : Outcome A} {r : Planning} {p q : Plan} (words : List ℕ) (place weight : ℕ) (out : List A)
+      → (weight ≤ length out → Planned rule (length out) p) → r ≡ planning (weightNumber (length words) place (length out) weight) p → r ≡ By q
+      → o ≡ placed z (length words) place (length out) (inserting table z q (length out) (drop place words))
       → o ≡ ruleDraw write (badWeight weight (length out)) rule words place out
-  plan-draws {rule} {p} words place weight out number none of-rule e =
-      e ∙ plan-settles rule (length out) p (length words) place (drop place words) of-rule ∙ accepted write rule words place weight out number none
+  plan-draws {rule} {p = p} {q = q} words place weight out of-rule d e drawn =
+      drawn
+      ∙ plan-settles rule (length out) q (length words) place (drop place words)
+      (plan-is (length words) place (length out) weight p d e (Planned rule (length out)) of-rule)
+      ∙ accepted write rule words place weight out refl (plan-passed (length words) place (length out) weight p d e)

@@ -7,11 +7,15 @@ use native.Mathlib.Omega.{arith}
 use lib.ListN.{length, getD, take, drop, set, replicate, length-replicate}
 use lib.Seq.{length-take-le}
 use Rattle.distr.specs.Words.{Read, got, short, bindRead}
-use Rattle.distr.specs.Draw.{Outcome}
+use Rattle.distr.specs.Constants.{outOfWords}
+use Rattle.distr.specs.declared.answer.Answer.{Answer}
+use Rattle.distr.specs.Answers.{refusal, success}
+use Rattle.distr.specs.Draw.{outcome}
 use Rattle.distr.proofs.Writing.{take-replicate}
+use Rattle.fixed_weights.specs.declared.choices.Signing.{Signing}
 use Rattle.fixed_weights.specs.declared.choices.Signing.the-variants.{Got, Short}
 use Rattle.fixed_weights.specs.Inserting.{SignAndPlace, signAndPlace, signing, insertedAt, insertSigns, placed, insertingSigns}
-use Rattle.fixed_weights.proofs.Signs.{drew, signing-short}
+use Rattle.fixed_weights.proofs.Signs.{Drew, drew, signing-short}
 use Rattle.fixed_weights.proofs.Turns.{Turn, turn-end, turn-next, placed-got, placed-short}
 
 -- one sign more: its choice, and then the others
@@ -53,15 +57,19 @@ module _ {A : Type 0} {z : A} {table : List A} {words : List ℕ} {n weight plac
       }
 
   module _ {i at w left : ℕ} {out : List A} (t : SignTurn z table words n weight place i at w left out) where
-    pub signs-done : n ≤ i → _≡_ {A = Outcome A} (record { number = 0; place = at; output = out }) (placed z (length words) place n (goal z table words n weight place))
-    unfolding insertSigns
-    signs-done h =
-        let none : n - i ≡ 0 = omega arith in
-        placed-got z words place n _ at out (t .turn .within)
-        (turn-end words n (goal z table words n weight place) (still z table words n weight place i w left) i at out (t .turn) h (λ xs ws. rw none))
+    abbrev Answers : Answer → List A → Type 0
+    Answers answer out′ = outcome answer out′ ≡ placed z (length words) place n (goal z table words n weight place)
 
-    module _ (more : i < n) where
-      -- a choice among i + 1 comes next
+    pub signs-done : {answer : Answer} → answer ≡ success at → n ≤ i → Answers answer out
+    unfolding insertSigns
+    signs-done e h =
+        let none : n - i ≡ 0 = omega arith in
+        rw e
+        (placed-got z words place n _ at out (t .turn .within)
+        (turn-end words n (goal z table words n weight place) (still z table words n weight place i w left) i at out (t .turn) h (λ xs ws. rw none)))
+
+    -- a choice among i + 1 comes next; r is what it hands back
+    module _ (more : i < n) {r : Signing} (told : r ≡ signing (length words) (signAndPlace (i + 1) w left (drop at words))) where
       one-more : still z table words n weight place i w left (take i out) (drop at words)
           ≡ insertSigns (λ b. getD table b z) (suc (n - suc i)) w left (take i out) (drop at words)
       one-more = ap (λ (m : ℕ). insertSigns (λ b. getD table b z) m w left (take i out) (drop at words)) (omega arith)
@@ -69,22 +77,34 @@ module _ {A : Type 0} {z : A} {table : List A} {words : List ℕ} {n weight plac
       choice : signAndPlace (suc (length (take i out))) w left (drop at words) ≡ signAndPlace (i + 1) w left (drop at words)
       choice = ap (λ (k : ℕ). signAndPlace k w left (drop at words)) (omega (arith, length-take-le i out (omega (arith, t .turn .size))))
 
-      pub signs-next : {bit s rest fewer after : ℕ} {out′ : List A}
-          → Got bit s rest fewer after ≡ signing (length words) (signAndPlace (i + 1) w left (drop at words))
-          → out′ ≡ set (set out i (getD out s z)) s (getD table bit z) → SignTurn z table words n weight place (i + 1) after rest fewer out′
-      signs-next {bit} {s} {rest} {fewer} {after} e o =
-          let d = drew words (i + 1) at w left e in
-          rw o
-          (record {
-            turn = turn-next words n _ _ i at out (t .turn) (still z table words n weight place (i + 1) rest fewer) s after (getD table bit z) z more (d .below) (d .within)
-                (rw (add-one i)
-                (one-more ∙ signs-step (λ b. getD table b z) (n - suc i) w left (take i out) (drop at words) _ _ (choice ∙ d .reads)));
-          })
+      module _ {bit s rest fewer after : ℕ} (got-it : r ≡ Got bit s rest fewer after) where
+        drawn : Drew words (i + 1) (signAndPlace (i + 1) w left (drop at words)) bit s rest fewer after
+        drawn = drew words (i + 1) at w left (sym got-it ∙ told)
 
-      pub signs-short : {out′ : List A} → Short ≡ signing (length words) (signAndPlace (i + 1) w left (drop at words)) → out′ ≡ replicate (length out) z
-          → _≡_ {A = Outcome A} (record { number = 23; place = place; output = out′ }) (placed z (length words) place n (goal z table words n weight place))
-      signs-short e o = rw (o, t .turn .size)
+        -- the index, the place and the sign's code are there
+        pub sign-index : i < length out
+        sign-index = omega (arith, t .turn .size)
+
+        pub sign-place : s < length out
+        sign-place = omega (arith, t .turn .size, drawn .below)
+
+        pub sign-code : bit < 3
+        sign-code = omega (arith, drawn .is-bit)
+
+        pub signs-next : {out′ : List A} → out′ ≡ set (set out i (getD out s z)) s (getD table bit z)
+            → SignTurn z table words n weight place (i + 1) after rest fewer out′
+        signs-next o =
+            rw o
+            (record {
+              turn = turn-next words n _ _ i at out (t .turn) (still z table words n weight place (i + 1) rest fewer) s after (getD table bit z) z more
+                  (drawn .below) (drawn .within)
+                  (rw (add-one i)
+                  (one-more ∙ signs-step (λ b. getD table b z) (n - suc i) w left (take i out) (drop at words) _ _ (choice ∙ drawn .reads)));
+            })
+
+      pub signs-short : {answer : Answer} {out′ : List A} → r ≡ Short → answer ≡ refusal outOfWords place → out′ ≡ replicate (length out) z → Answers answer out′
+      signs-short e a o = rw (a, o, t .turn .size)
           (placed-short z words place n _
           (sym (t .turn .reading) ∙ one-more
           ∙ signs-stop (λ b. getD table b z) (n - suc i) w left (take i out) (drop at words)
-          (choice ∙ signing-short (length words) (signAndPlace (i + 1) w left (drop at words)) e)))
+          (choice ∙ signing-short (length words) (signAndPlace (i + 1) w left (drop at words)) (sym e ∙ told))))

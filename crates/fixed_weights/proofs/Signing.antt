@@ -1,25 +1,27 @@
 -- A draw of signs at chosen places is the draw by the rule of a fixed ternary weight, over how the output holds coefficients.
 use mathlib.Core.Path.{_≡_, refl, sym, ap, _∙_}
 use mathlib.Core.List.{List, [], _∷_, map}
-use Prim.Native.Nat.{ℕ, zero, suc, _-_, _/_, _%_, _^_, _<_}
-use native.Mathlib.Nat.{mod-lt}
+use Prim.Native.Nat.{ℕ, zero, suc, _+_, _-_, _/_, _%_, _^_, _<_, _≤_}
+use native.Mathlib.Nat.{add-zero, mod-lt}
 use native.Mathlib.Omega.{arith}
 use borrow.Author.Tests.{eq-eqb, ne-eqb}
 use lib.ListN.{length, getD, drop, replicate, length-replicate, length-map}
 use lib.IntN.{ℤ, pos}
 use Rattle.distr.specs.Words.{Read, got, short, mapRead, bindRead, word, choose}
-use Rattle.distr.specs.Rule.{readBy}
+use Rattle.distr.specs.Rule.{Rule, readBy}
 use Rattle.distr.specs.Packed.{digits, signValue, signsAlone}
 use Rattle.distr.specs.Insertion.{countUp, inserted, signs, chooseSigned, insertSigned, signedInsertion, fixedTernaryWeight}
 use Rattle.distr.specs.Numbers.{badWeight}
-use Rattle.distr.specs.Draw.{Outcome, ruleDraw}
+use Rattle.distr.specs.declared.answer.Answer.{Answer}
+use Rattle.distr.specs.Answers.{refusal}
+use Rattle.distr.specs.Draw.{Outcome, outcome, ruleDraw}
 use Rattle.distr.proofs.Reading.{short-not-got}
 use Rattle.distr.proofs.Writing.{map-replicate}
 use Rattle.fixed_weights.specs.Plans.{weightNumber}
 use Rattle.fixed_weights.specs.Inserting.{SignAndPlace, lowestSignAndPlace, signAndPlace, insertedAt, insertSigns, placed, insertingSigns}
 use Rattle.distr.proofs.Reading.{map-read-twice}
 use Rattle.fixed_weights.proofs.Inserting.{map-bind, bind-same, bind-bind, bind-map, length-inserted, map-inserted}
-use Rattle.fixed_weights.proofs.Judging.{not-heavy, accepted}
+use Rattle.fixed_weights.proofs.Judging.{Passed, passed, not-heavy, refused, accepted}
 use Rattle.fixed_weights.proofs.Planning.{Holds, settled-placed}
 
 -- the rule's insertion with signs is this one: a step with a sign at hand, the lowest bit of w, after which it is by `later`
@@ -91,38 +93,53 @@ module _ {A : Type 0} (val : ℤ → A) (value : ℕ → A) (agree : (b : ℕ) �
       (map-inserted val (signValue (c .bit)) xs (c .chosen)
       ∙ ap (λ (v : A). insertedAt v (map val xs) (c .chosen)) (sym (agree (c .bit) (sign-bit (suc (length xs)) w left ws c rest e))))))
 
-module _ {A : Type 0} {z : A} {write : List ℤ → List A} {val : ℤ → A} {table : List A} (h : Holds z write val table) where
-  by-sign : (b : ℕ) → b < 2 → getD table b z ≡ val (signValue b)
+module _ {A : Type 0} {z : A} {write : List ℤ → List A} {table : List A} (h : Holds z write table) where
+  by-sign : (b : ℕ) → b < 2 → getD table b z ≡ (h .val) (signValue b)
   by-sign zero l = h .tabled 0 (omega arith)
   by-sign (suc zero) l = h .tabled 1 (omega arith)
   by-sign (suc (suc b)) l = absurd (omega arith)
 
-  signs-insert : (weight n : ℕ) (ws : List ℕ) → mapRead (map val) (readBy (signedInsertion weight n) ws) ≡ insertingSigns table z weight n ws
+  signs-insert : (weight n : ℕ) (ws : List ℕ) → mapRead (map (h .val)) (readBy (signedInsertion weight n) ws) ≡ insertingSigns table z weight n ws
   unfolding digits
   signs-insert weight n ws =
       let xs : List ℤ = replicate (n - weight) (pos 0) in
-      ap (λ (k : ℕ). mapRead (map val) (mapRead (λ ds. insertSigned ds xs) (chooseSigned (countUp (suc k) weight) [] ws)))
+      ap (λ (k : ℕ). mapRead (map (h .val)) (mapRead (λ ds. insertSigned ds xs) (chooseSigned (countUp (suc k) weight) [] ws)))
       (sym (length-replicate (n - weight) (pos 0)))
-      ∙ ap (mapRead (map val)) (rule-signs weight 0 0 xs ws)
-      ∙ signs-held val (λ b. getD table b z) by-sign weight 0 0 xs ws
+      ∙ ap (mapRead (map (h .val))) (rule-signs weight 0 0 xs ws)
+      ∙ signs-held (h .val) (λ b. getD table b z) by-sign weight 0 0 xs ws
       ∙ ap (λ (ys : List A). insertSigns (λ b. getD table b z) weight 0 0 ys ws)
-      (map-replicate val (n - weight) (pos 0) ∙ ap (replicate (n - weight)) (sym (h .tabled 2 (omega arith))))
+      (map-replicate (h .val) (n - weight) (pos 0) ∙ ap (replicate (n - weight)) (sym (h .tabled 2 (omega arith))))
 
-  module _ {k : ℕ} {o : Outcome A} (words : List ℕ) (place weight : ℕ) (out : List A)
-      (number : k ≡ weightNumber (length words) place (length out) weight) (none : k ≡ 0) where
-    -- fewer signs than places
-    pub signs-draw : (weight ≡ length out → ⊥)
-        → o ≡ placed z (length words) place (length out) (insertingSigns table z weight (length out) (drop place words))
-        → o ≡ ruleDraw write (badWeight weight (length out)) (fixedTernaryWeight weight (length out)) words place out
-    signs-draw ne e =
-        e
-        ∙ ap (placed z (length words) place (length out)) (sym (signs-insert weight (length out) (drop place words)))
-        ∙ sym (settled-placed h (length words) place (length out) (readBy (signedInsertion weight (length out)) (drop place words)))
-        ∙ accepted write (signedInsertion weight (length out)) words place weight out number none
-        ∙ rw (ne-eqb weight (length out) ne)
+  -- fewer signs than places
+  pub signs-draw : {k : ℕ} {o : Outcome A} (words : List ℕ) (place weight : ℕ) (out : List A)
+      → k ≡ weightNumber (length words) place (length out) (weight + 0) → k ≡ 0 → (weight ≡ length out → ⊥)
+      → o ≡ placed z (length words) place (length out) (insertingSigns table z weight (length out) (drop place words))
+      → o ≡ ruleDraw write (badWeight weight (length out)) (fixedTernaryWeight weight (length out)) words place out
+  signs-draw words place weight out number none ne e =
+      e
+      ∙ ap (placed z (length words) place (length out)) (sym (signs-insert weight (length out) (drop place words)))
+      ∙ sym (settled-placed h (length words) place (length out) (readBy (signedInsertion weight (length out)) (drop place words)))
+      ∙ accepted write (signedInsertion weight (length out)) words place weight out (rw (add-zero weight) at number) none
+      ∙ rw (ne-eqb weight (length out) ne)
 
--- a sign at every place
+-- a sign at every place; an output has less than 2^64 of them
 pub all-signs : {A : Type 0} (write : List ℤ → List A) {o : Outcome A} (words : List ℕ) (place weight : ℕ) (out : List A)
-    → length out < 2 ^ 64 → weight ≡ length out → o ≡ ruleDraw write 0 (signsAlone (length out)) words place out
+    → weight < 2 ^ 64 → weight ≡ length out → o ≡ ruleDraw write 0 (signsAlone (length out)) words place out
     → o ≡ ruleDraw write (badWeight weight (length out)) (fixedTernaryWeight weight (length out)) words place out
-all-signs write words place weight out l e q = rw (not-heavy weight (length out) (omega (arith, e)) l, eq-eqb weight (length out) e) q
+all-signs write words place weight out l e q = rw (not-heavy weight (length out) (omega arith) (omega arith), eq-eqb weight (length out) e) q
+
+-- the number of one weight alone, the second being 0: what it refuses, and what it leaves
+pub weight-refused : {A : Type 0} (write : List ℤ → List A) (rule : Rule) (words : List ℕ) (place weight : ℕ) (out : List A) {k : ℕ} {answer : Answer}
+    → k ≡ weightNumber (length words) place (length out) (weight + 0) → (k ≡ 0 → ⊥) → answer ≡ refusal k place
+    → outcome answer out ≡ ruleDraw write (badWeight weight (length out)) rule words place out
+weight-refused write rule words place weight out number some a = rw a (refused write rule words place weight out (rw (add-zero weight) at number) some)
+
+module _ (wordCount place n weight : ℕ) {k : ℕ} (number : k ≡ weightNumber wordCount place n (weight + 0)) (none : k ≡ 0) where
+  good : Passed wordCount place n weight
+  good = passed (rw (add-zero weight) at number) none
+
+  pub weight-light : weight ≤ n
+  weight-light = good .light
+
+  pub weight-there : place ≤ wordCount
+  weight-there = good .there

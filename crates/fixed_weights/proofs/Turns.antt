@@ -10,15 +10,19 @@ use borrow.Author.Tests.{ltb-true, ltb-false}
 use lib.ListN.{length, getD, take, drop, set, replicate, length-set, length-replicate}
 use lib.Seq.{take-all, length-take-le}
 use Rattle.distr.specs.Words.{Read, got, short, choose}
-use Rattle.distr.specs.Draw.{Outcome}
+use Rattle.distr.specs.Constants.{outOfWords}
+use Rattle.distr.specs.declared.answer.Answer.{Answer}
+use Rattle.distr.specs.Answers.{refusal, success}
+use Rattle.distr.specs.Draw.{Outcome, outcome}
 use Rattle.distr.proofs.Writing.{take-replicate}
+use Rattle.words.specs.declared.Taken.{Taken}
 use Rattle.words.specs.declared.Taken.the-variants.{Got, Short}
 use Rattle.words.specs.Reading.{taken}
 use Rattle.words.proofs.Places.{place-of}
 use Rattle.words.proofs.Taking.{took-choice, chosen-below, taken-short}
 use Rattle.fixed_weights.specs.Table.{entries}
 use Rattle.fixed_weights.specs.declared.plans.Plan.{Plan}
-use Rattle.fixed_weights.specs.Plans.{planned}
+use Rattle.fixed_weights.specs.Plans.{planned, Ready}
 use Rattle.fixed_weights.specs.Inserting.{insertedAt, insertAll, placed, inserting}
 use Rattle.fixed_weights.proofs.Inserting.{stored-insertion, insert-next, insert-short}
 
@@ -85,7 +89,7 @@ codes-next first second split n i s h = by-test (ltb i split) refl
 codes-end : (first second split n i : ℕ) → split ≤ n → n ≤ i → codesFrom first second split n i ≡ []
 codes-end first second split n i s h = codes-same first second (split - i) (n - i - (split - i)) 0 0 (omega arith) (omega arith)
 
-pub cond-below : (b : Bool) {m n k : ℕ} → m < k → n < k → cond b m n < k
+cond-below : (b : Bool) {m n k : ℕ} → m < k → n < k → cond b m n < k
 cond-below true h l = h
 cond-below false h l = l
 
@@ -112,7 +116,7 @@ wanted-by-plan z table words n place p h =
     (omega arith) (omega arith)))
 
 module _ {A : Type 0} {z : A} {table : List A} {words : List ℕ} {n first second split start place : ℕ} {f : A} where
-  pub inserted-start : {out : List A} → split ≤ n → start ≤ split → place ≤ length words → out ≡ replicate n f
+  inserted-start : {out : List A} → split ≤ n → start ≤ split → place ≤ length words → out ≡ replicate n f
       → Inserted z table words n first second split start place f start place out
   inserted-start {out} r h w e = record {
     room = r;
@@ -135,8 +139,8 @@ module _ {A : Type 0} {z : A} {table : List A} {words : List ℕ} {n first secon
         turn-end words n goal _ i at out (t .turn) h (λ xs ws.
         ap (λ (cs : List ℕ). insertAll (entries table z cs) xs ws) (codes-end first second split n i (t .room) h))
 
-    module _ (more : i < n) where
-      -- a value is to be inserted, at a choice among i + 1
+    -- a value is to be inserted, at a choice among i + 1; r is what that hands back
+    module _ (more : i < n) {r : Taken} (told : r ≡ taken (length words) (choose (i + 1) (drop at words))) where
       inserts : still z table words n first second split i (take i out) (drop at words)
           ≡ insertAll (getD table (cond (ltb i split) first second) z ∷ entries table z (codesFrom first second split n (suc i))) (take i out) (drop at words)
       inserts = ap (λ (cs : List ℕ). insertAll (entries table z cs) (take i out) (drop at words)) (codes-next first second split n i (t .room) more)
@@ -144,29 +148,53 @@ module _ {A : Type 0} {z : A} {table : List A} {words : List ℕ} {n first secon
       choice : choose (suc (length (take i out))) (drop at words) ≡ choose (i + 1) (drop at words)
       choice = ap (λ (k : ℕ). choose k (drop at words)) (omega (arith, length-take-le i out (omega (arith, t .turn .size))))
 
-      pub inserted-next : {s next code : ℕ} {out′ : List A} → Got s next ≡ taken (length words) (choose (i + 1) (drop at words))
-          → code ≡ cond (ltb i split) first second → out′ ≡ set (set out i (getD out s z)) s (getD table code z)
-          → Inserted z table words n first second split start place f (i + 1) next out′
-      inserted-next {s} {next} {code} {out′} e c o =
-          let chosen = took-choice words at s next (i + 1) e in
-          rw o
-          (record {
-            room = t .room;
-            turn = turn-next words n goal _ i at out (t .turn) _ s next (getD table code z) z more (chosen-below words at s next (i + 1) e) (chosen .within)
-                (rw (add-one i, c) (inserts ∙ insert-next _ _ (take i out) (drop at words) s (drop next words) (choice ∙ chosen .reads)));
-          })
+      module _ {s next : ℕ} (chosen : r ≡ Got s next) where
+        -- the index and the place are there
+        pub insert-index : i < length out
+        insert-index = omega (arith, t .turn .size)
 
-      inserted-short : Short ≡ taken (length words) (choose (i + 1) (drop at words)) → goal ≡ short
+        pub insert-place : s < length out
+        insert-place = omega (arith, t .turn .size, chosen-below words at s next (i + 1) (sym chosen ∙ told))
+
+        pub inserted-next : {code : ℕ} {out′ : List A} → code ≡ cond (ltb i split) first second
+            → out′ ≡ set (set out i (getD out s z)) s (getD table code z) → Inserted z table words n first second split start place f (i + 1) next out′
+        inserted-next {code} {out′} c o =
+            let took = took-choice words at s next (i + 1) (sym chosen ∙ told) in
+            let below = chosen-below words at s next (i + 1) (sym chosen ∙ told) in
+            rw o
+            (record {
+              room = t .room;
+              turn = turn-next words n goal _ i at out (t .turn) _ s next (getD table code z) z more below (took .within)
+                  (rw (add-one i, c) (inserts ∙ insert-next _ _ (take i out) (drop at words) s (drop next words) (choice ∙ took .reads)));
+            })
+
+      inserted-short : r ≡ Short → goal ≡ short
       inserted-short e =
-          sym (t .turn .reading) ∙ inserts ∙ insert-short _ _ (take i out) (drop at words) (choice ∙ taken-short (length words) (choose (i + 1) (drop at words)) e)
+          sym (t .turn .reading) ∙ inserts
+          ∙ insert-short _ _ (take i out) (drop at words) (choice ∙ taken-short (length words) (choose (i + 1) (drop at words)) (sym e ∙ told))
 
--- the answer of the loop that inserts by a plan
-module _ {A : Type 0} {z : A} {table : List A} {words : List ℕ} {n place : ℕ} (p : Plan) (room : planned p ≤ n) {i at : ℕ} {out : List A}
-    (t : Inserted z table words n (p .first) (p .second) (n - p .seconds) (n - p .seconds - p .firsts) place (getD table (p .fill) z) i at out) where
-  pub plan-done : n ≤ i → _≡_ {A = Outcome A} (record { number = 0; place = at; output = out }) (placed z (length words) place n (inserting table z p n (drop place words)))
-  plan-done h = placed-got z words place n _ at out (t .turn .within) (sym (wanted-by-plan z table words n place p room) ∙ inserted-end t h)
+-- the loop that inserts by a plan
+module _ {n : ℕ} {p : Plan} (ready : Ready p n) where
+  pub plan-code : (i split code : ℕ) → code ≡ cond (ltb i split) (p .first) (p .second) → code < 3
+  plan-code i split code e = rw e (cond-below (ltb i split) (ready .first-code) (ready .second-code))
 
-  pub plan-short : {out′ : List A} → i < n → Short ≡ taken (length words) (choose (i + 1) (drop at words)) → out′ ≡ replicate (length out) z
-      → _≡_ {A = Outcome A} (record { number = 23; place = place; output = out′ }) (placed z (length words) place n (inserting table z p n (drop place words)))
-  plan-short h e o = rw (o, t .turn .size)
-      (placed-short z words place n _ (sym (wanted-by-plan z table words n place p room) ∙ inserted-short t h e))
+  module _ {A : Type 0} (z : A) (table : List A) (words : List ℕ) (place : ℕ) where
+    abbrev InPlan : ℕ → ℕ → List A → Type 0
+    InPlan i at out =
+        Inserted z table words n (p .first) (p .second) (n - p .seconds) (n - p .seconds - p .firsts) place (getD table (p .fill) z) i at out
+
+    abbrev Answers : Answer → List A → Type 0
+    Answers answer out = outcome answer out ≡ placed z (length words) place n (inserting table z p n (drop place words))
+
+    pub plan-start : {out : List A} → place ≤ length words → out ≡ replicate n (getD table (p .fill) z) → InPlan (n - p .seconds - p .firsts) place out
+    plan-start w e = inserted-start (omega arith) (omega arith) w e
+
+    module _ {i at : ℕ} {out : List A} (t : InPlan i at out) where
+      pub plan-done : {answer : Answer} → answer ≡ success at → n ≤ i → Answers answer out
+      plan-done e h = rw e
+          (placed-got z words place n _ at out (t .turn .within) (sym (wanted-by-plan z table words n place p (ready .room)) ∙ inserted-end t h))
+
+      pub plan-short : {answer : Answer} {out′ : List A} {r : Taken} → i < n → r ≡ taken (length words) (choose (i + 1) (drop at words)) → r ≡ Short
+          → answer ≡ refusal outOfWords place → out′ ≡ replicate (length out) z → Answers answer out′
+      plan-short h told e a o = rw (a, o, t .turn .size)
+          (placed-short z words place n _ (sym (wanted-by-plan z table words n place p (ready .room)) ∙ inserted-short t h told e))

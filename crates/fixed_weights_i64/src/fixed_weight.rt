@@ -22,7 +22,9 @@ pub fn sample_fixed_hamming_weight_binary_values_to(
     words: &[u32],
     place: usize,
 ) -> Answer
-    ensures { λ r. ⌜ outcome r (now (output .exit)) ≡ ruleDraw (held encoding) (badWeight «hamming_weight» (length (now (output .entry)))) (fixedBinaryWeight «hamming_weight» (length (now (output .entry)))) (now (words .entry)) place (now (output .entry)) ⌝ }
+    ensures { λ r. ⌜ outcome r (now (output .exit)) ≡
+        ruleDraw (held encoding) (badWeight «hamming_weight» (length (now (output .entry))))
+        (fixedBinaryWeight «hamming_weight» (length (now (output .entry)))) (now (words .entry)) place (now (output .entry)) ⌝ }
 {
     match plans::binary_plan(words.len(), place, output.len(), hamming_weight) {
         Planning::By(plan) => {
@@ -43,7 +45,8 @@ pub fn sample_fixed_hamming_weight_ternary_values_to(
     words: &[u32],
     place: usize,
 ) -> Answer
-    ensures { λ r. ⌜ outcome r (now (output .exit)) ≡ ruleDraw (held encoding) (badWeight «hamming_weight» (length (now (output .entry)))) (fixedTernaryWeight «hamming_weight» (length (now (output .entry)))) (now (words .entry)) place (now (output .entry)) ⌝ }
+    ensures { λ r. ⌜ outcome r (now (output .exit)) ≡ ruleDraw (held encoding) (badWeight «hamming_weight» (length (now (output .entry))))
+        (fixedTernaryWeight «hamming_weight» (length (now (output .entry)))) (now (words .entry)) place (now (output .entry)) ⌝ }
 {
     let n = output.len();
     let number = plans::weight_number(words.len(), place, n, hamming_weight, 0);

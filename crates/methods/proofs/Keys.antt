@@ -6,7 +6,7 @@ use lib.Ieee.{eq}
 use lib.Ieee.Fits.{and-l, and-r}
 use borrow.Author.Tests.{eq-eqb}
 use Rattle.gaussian_core.proofs.SameFloat.{beq-same, beq-self}
-use Rattle.methods.specs.declared.MethodKey.{MethodKey}
+use Rattle.methods.specs.declared.key.MethodKey.{MethodKey}
 use Rattle.methods.specs.Keys.{sameKey}
 
 -- The test of two keys, taken apart.

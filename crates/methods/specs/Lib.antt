@@ -1,2 +1,3 @@
--- The key of a prepared method, by which two methods are compared.
+-- A prepared method, and its key.
+pub mod Method
 pub mod Keys

@@ -31,7 +31,7 @@ map-wides f g h (suc n) ws b =
     (map-wides f g h n (drop 2 ws) (λ i. rw (getD-drop 2 ws i 0) (b (2 + i))))
 
 -- what is read where the words are there
-read-there : {A : Type 0} (value : ℕ → A) (n : ℕ) (ws : List ℕ) → 2 * n ≤ length ws → wideRead value n ws ≡ got (map value (wides n ws)) (drop (2 * n) ws)
+pub read-there : {A : Type 0} (value : ℕ → A) (n : ℕ) (ws : List ℕ) → 2 * n ≤ length ws → wideRead value n ws ≡ got (map value (wides n ws)) (drop (2 * n) ws)
 unfolding mapRead
 read-there value n ws h = rw (many-wide n ws, le-leb (2 * n) (length ws) h)
 

@@ -9,7 +9,7 @@ use native.Mathlib.Omega.{arith}
 use borrow.Author.Tests.{lt-ltb, le-ltb, ltb-true}
 use lib.Dec.{ltb}
 use mir.Val.{boolByte}
-use lib.ListN.{length, getD, take, drop, length-map, length-append, drop-of-length-le}
+use lib.ListN.{length, getD, take, drop, replicate, length-map, length-append, drop-of-length-le}
 use lib.Seq.{paste, take-paste, take-nil, take-append-add, take-append-le, take-all, drop-cons, length-paste}
 use Rattle.distr.specs.Words.{Read, got, short, mapRead}
 use Rattle.distr.specs.Packed.{digits, split}
@@ -190,9 +190,10 @@ module _ {A : Type 0} (z : A) (pairs : List A) (words : List ℕ) (out₀ : List
   wanted-more {at} h = omega arith
 
   -- a word is read
-  pub trit-word : {out : List A} {at next rest left : ℕ} → at < length out₀ → left ≡ 0 → next < length words → TritLoop out at next rest left
+  pub trit-word : {out : List A} {at next rest left : ℕ} → at < length out₀ → left ≡ 0 → (next ≡ length words → ⊥) → TritLoop out at next rest left
       → TritLoop out at (next + 1) (getD words next 0) 4
-  trit-word {out} {at} {next} {rest} h none l s =
+  trit-word {out} {at} {next} {rest} h none more s =
+      let l : next < length words = omega (arith, s .found) in
       let m : ℕ = (length out₀ - at - 1) / 5 in
       let w : ℕ = getD words next 0 in
       record {
@@ -243,7 +244,7 @@ module _ {A : Type 0} (z : A) (pairs : List A) (words : List ℕ) (out₀ : List
       left-less out out′ at at′ next bs left D (omega arith) (λ ds. ap (λ (j : ℕ). take j (D ++ ds)) front ∙ take-append-add D ds r) (s .holds)
 
   -- a byte is taken off those left
-  taken : {out out′ : List A} {at at′ next rest left : ℕ} → 0 < left → length out′ ≡ length out₀ → at′ ≤ length out₀
+  taken : {out out′ : List A} {at at′ next rest left : ℕ} → (left ≡ 0 → ⊥) → length out′ ≡ length out₀ → at′ ≤ length out₀
       → Left out′ at′ (digits 256 (left - 1) (rest / 256)) next ≡ Left out at ((rest % 256 ∷ []) ++ digits 256 (left - 1) (rest / 256)) next
       → TritLoop out at next rest left → TritLoop out′ at′ next (rest / 256) (left - 1)
   taken {out} {at = at} {next = next} {rest = rest} {left = left} k e w step s = record {
@@ -251,11 +252,11 @@ module _ {A : Type 0} (z : A) (pairs : List A) (words : List ℕ) (out₀ : List
     within = w;
     found = s .found;
     paired = s .paired;
-    same = step ∙ ap (λ (ds : List ℕ). Left out at ds next) (sym (digits-more left rest k)) ∙ s .same;
+    same = step ∙ ap (λ (ds : List ℕ). Left out at ds next) (sym (digits-more left rest (omega arith))) ∙ s .same;
   }
 
   -- its digits are stored, or it is skipped
-  pub trit-byte : {out out′ : List A} {at at′ next rest left : ℕ} → at + 5 ≤ length out₀ → 0 < left → length out′ ≡ length out
+  pub trit-byte : {out out′ : List A} {at at′ next rest left : ℕ} → at + 5 ≤ length out₀ → (left ≡ 0 → ⊥) → length out′ ≡ length out
       → TritLoop out at next rest left → BytesStored z pairs out at (rest % 256 ∷ []) out′ at′ → TritLoop out′ at′ next (rest / 256) (left - 1)
   trit-byte {next = next} {rest = rest} {left = left} l k e s b =
       let w = b .within in
@@ -267,7 +268,7 @@ module _ {A : Type 0} (z : A) (pairs : List A) (words : List ℕ) (out₀ : List
   unfolding digits
   trit-whole {out} {at = at} {next = next} l k e s b =
       let w : ℕ = getD words next 0 in
-      let read = trit-word {rest = 0} (omega arith) refl k s in
+      let read = trit-word {rest = 0} (omega arith) refl (λ e. omega arith) s in
       let four : length (digits 256 4 w) ≡ 4 = length-digits 256 4 w in
       let within = b .within in
       record {
@@ -281,12 +282,12 @@ module _ {A : Type 0} (z : A) (pairs : List A) (words : List ℕ) (out₀ : List
             ∙ read .same;
       }
 
-  -- the last digits, as many as there is room for, stored aside and copied
-  pub trit-last : (room : List A) {out out′ part : List A} {at next rest left : ℕ} → at < length out₀ → length out₀ ≤ at + 5 → 0 < left → rest % 256 < 243
-      → TritLoop out at next rest left → part ≡ paste room 0 (digitValues z pairs (digits 3 5 (rest % 256))) 5 → out′ ≡ paste out at part (length out - at)
+  -- the last digits, as many as there is room for, stored aside over eight zeros and copied
+  pub trit-last : {out out′ part : List A} {at next rest left : ℕ} → at < length out₀ → length out₀ < at + 5 → (left ≡ 0 → ⊥) → rest % 256 < 243
+      → TritLoop out at next rest left → (rest % 256 < 243 → part ≡ paste (replicate 8 z) 0 (digitValues z pairs (digits 3 5 (rest % 256))) 5) → out′ ≡ paste out at part (length out - at)
       → TritLoop out′ (length out₀) next (rest / 256) (left - 1)
   unfolding acceptedBytes split
-  trit-last room {out} {out′} {at = at} {next = next} {rest = rest} {left = left} l l′ k m s p o =
+  trit-last {out} {out′} {at = at} {next = next} {rest = rest} {left = left} l l′ k m s p o =
       let b : ℕ = rest % 256 in
       let D : List ℕ = digits 3 5 b in
       let vs : List A = digitValues z pairs D in
@@ -297,7 +298,7 @@ module _ {A : Type 0} (z : A) (pairs : List A) (words : List ℕ) (out₀ : List
       let fits : count ≤ length D = omega arith in
       let end : at + count ≡ length out₀ = omega arith in
       let none : length out₀ - length out₀ ≡ 0 = omega arith in
-      let copied : out′ ≡ paste out at vs count = from-front room vs out at 5 count (omega arith) (le-of-eq (sym fives)) p (rw sized at o) in
+      let copied : out′ ≡ paste out at vs count = from-front (replicate 8 z) vs out at 5 count (omega arith) (le-of-eq (sym fives)) (p m) (rw sized at o) in
       taken k (ap length copied ∙ length-paste out at vs count (omega arith) (omega arith) ∙ sized) (omega arith)
       (left-less out out′ at (length out₀) next (b ∷ []) (digits 256 (left - 1) (rest / 256)) (take count D)
       (rw (lt-ltb b 243 m) (omega arith))
@@ -306,7 +307,7 @@ module _ {A : Type 0} (z : A) (pairs : List A) (words : List ℕ) (out₀ : List
       s
 
   -- a byte is skipped
-  pub trit-skip : {out : List A} {at next rest left : ℕ} → 0 < left → 243 ≤ rest % 256 → TritLoop out at next rest left
+  pub trit-skip : {out : List A} {at next rest left : ℕ} → (left ≡ 0 → ⊥) → 243 ≤ rest % 256 → TritLoop out at next rest left
       → TritLoop out at next (rest / 256) (left - 1)
   unfolding acceptedBytes split
   trit-skip {out} {at} {next} {rest} {left} h l s =
@@ -324,11 +325,11 @@ module _ {A : Type 0} (z : A) (pairs : List A) (words : List ℕ) (out₀ : List
       ∙ s .same
 
   -- a word is missing
-  pub trit-short : {out : List A} {at next rest left : ℕ} → at < length out₀ → left ≡ 0 → length words ≤ next → TritLoop out at next rest left → short ≡ Whole
+  pub trit-short : {out : List A} {at next rest left : ℕ} → at < length out₀ → left ≡ 0 → next ≡ length words → TritLoop out at next rest left → short ≡ Whole
   unfolding mapRead
   trit-short {out} {at} {next} {rest} h none l s =
       sym (ap (mapRead (finished at out))
-      (ap₂ (λ (ds ws : List ℕ). bytesFrom ds ws (bytesWanted (length out₀ - at))) (digits-none rest none) (drop-of-length-le words l)
+      (ap₂ (λ (ds ws : List ℕ). bytesFrom ds ws (bytesWanted (length out₀ - at))) (digits-none rest none) (drop-of-length-le words (le-of-eq (sym l)))
       ∙ ap (bytesFrom [] []) (wanted-more h)
       ∙ from-none ((length out₀ - at - 1) / 5)))
       ∙ s .same

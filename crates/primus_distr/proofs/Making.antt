@@ -22,17 +22,8 @@ use Rattle.secret_key_sampler.specs.Sampler.{isMade}
 use Rattle.error_sampler.specs.Sampler.{isMade as isMadeError}
 use Rattle.primus_distr.specs.declared.ternary_sampler.MadeTernarySampler.{MadeTernarySampler}
 use Rattle.primus_distr.specs.declared.binomial.CenteredBinomial.{CenteredBinomial}
-use Rattle.primus_distr.specs.Views.{
-  emptyTernary,
-  makingTernary,
-  asKey,
-  emptyGaussian,
-  makingGaussian,
-  asError,
-  emptyBinomial,
-  makingBinomial,
-  asBinomialError,
-}
+use Rattle.primus_distr.specs.Views.{emptyTernary, makingTernary, asKey, emptyGaussian, makingGaussian, asError}
+use Rattle.primus_distr.specs.Views.{emptyBinomial, makingBinomial, asBinomialError}
 
 one-or-made : (bad : Bool) {k : ℕ} (made : MadeTernarySampler) → k ≡ refuse bad 1 → (k ≡ 0 → ⊥)
     → record { number = k; sampler = emptyTernary } ≡ cond bad (record { number = 1; sampler = emptyTernary }) made

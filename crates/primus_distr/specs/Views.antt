@@ -11,10 +11,9 @@ use Rattle.distr.specs.Gaussian.{support}
 use Rattle.distr.specs.Making.{badProbabilities, refuse, gaussianNumber}
 use Rattle.ternary.specs.declared.ternary.TernaryEnds.the-variants.{General}
 use Rattle.ternary.specs.Sampler.{samplerOf}
-use Rattle.secret_key_method.specs.declared.SecretKeyMethod.the-variants.{Ternary as TernaryMethod}
+use Rattle.methods.specs.declared.SamplingMethod.the-variants.{Ternary as TernaryMethod, Gaussian as GaussianMethod, CenteredBinomial as BinomialMethod}
 use Rattle.secret_key_sampler.specs.declared.SecretKeySampler.{SecretKeySampler}
 use Rattle.centered_binomial.specs.Binomial.{etaNumber, parametersOf}
-use Rattle.error_method.specs.declared.ErrorMethod.the-variants.{Gaussian as GaussianMethod, CenteredBinomial as BinomialMethod}
 use Rattle.error_sampler.specs.declared.ErrorSampler.{ErrorSampler}
 use Rattle.primus_distr.specs.declared.ternary_sampler.TernarySampler.{TernarySampler}
 use Rattle.primus_distr.specs.declared.ternary_sampler.MadeTernarySampler.{MadeTernarySampler}

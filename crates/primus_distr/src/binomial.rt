@@ -2,8 +2,8 @@
 use centered_binomial::CenteredBinomialParameters;
 use distr::answer::Answer;
 use distr::error_distribution::ErrorDistribution;
-use error_method::ErrorMethod;
 use error_sampler::ErrorSampler;
+use methods::SamplingMethod;
 ghost use mathlib.Core.Path.{_≡_};
 ghost use Rattle.distr.specs.Distribution.{error};
 ghost use Rattle.distr.specs.Draw.{outcome, signedDraw, encodedDraw, noTables};
@@ -30,7 +30,7 @@ fn as_error(sampler: CenteredBinomial) -> ErrorSampler
         distribution: ErrorDistribution::CenteredBinomial {
             eta: parameters.eta,
         },
-        method: ErrorMethod::CenteredBinomial(parameters),
+        method: SamplingMethod::CenteredBinomial(parameters),
     }
 }
 

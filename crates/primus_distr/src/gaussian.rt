@@ -2,8 +2,8 @@
 use distr::answer::Answer;
 use distr::error_distribution::ErrorDistribution;
 use distr::gaussian_parameters::GaussianParameters;
-use error_method::ErrorMethod;
 use error_sampler::ErrorSampler;
+use methods::SamplingMethod;
 ghost use mathlib.Core.Path.{_≡_};
 ghost use Rattle.distr.specs.Distribution.{error};
 ghost use Rattle.distr.specs.Draw.{outcome, signedDraw, encodedDraw};
@@ -31,7 +31,7 @@ fn as_error(sampler: SignedDiscreteGaussian) -> ErrorSampler
         distribution: ErrorDistribution::Gaussian {
             standard_deviation: parameters.standard_deviation,
         },
-        method: ErrorMethod::Gaussian(parameters),
+        method: SamplingMethod::Gaussian(parameters),
     }
 }
 

@@ -1,7 +1,7 @@
 // The ternary sampler of two probabilities: a view of the secret-key sampler of the distribution `Ternary`.
 use distr::answer::Answer;
 use distr::secret_key_distr::SecretKeyDistr;
-use secret_key_method::SecretKeyMethod;
+use methods::SamplingMethod;
 use secret_key_sampler::SecretKeySampler;
 use ternary::ternary::TernaryEnds;
 ghost use mathlib.Core.Path.{_≡_};
@@ -33,7 +33,7 @@ fn as_key(sampler: TernarySampler) -> SecretKeySampler
             negative_one_probability: sampler.negative_one_probability,
             one_probability: sampler.one_probability,
         },
-        method: SecretKeyMethod::Ternary(ends),
+        method: SamplingMethod::Ternary(ends),
     }
 }
 

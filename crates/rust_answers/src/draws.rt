@@ -105,8 +105,6 @@ fn residues(
 ) -> u32 {
     let values = kept(room, ANSWER);
     let distr = distr_of(values);
-    let bounds = entries(room, BOUNDS);
-    let endpoints = entries(room, ENDPOINTS);
     let at_9 = value_at(values, 9);
     if value_at(values, 0) == 3 {
         return beside::beside_encoded(
@@ -116,8 +114,8 @@ fn residues(
             distr.p,
             distr.q,
             at_9,
-            bounds,
-            endpoints,
+            entries(room, BOUNDS),
+            entries(room, ENDPOINTS),
             heights,
             curve,
             words,
@@ -134,8 +132,8 @@ fn residues(
         distr.q,
         at_9 as usize,
         moduli_of(values),
-        bounds,
-        endpoints,
+        entries(room, BOUNDS),
+        entries(room, ENDPOINTS),
         heights,
         curve,
         words,

@@ -1,4 +1,3 @@
--- Laws on the method that is prepared for a distribution, on its key, and on the floats of one that code holds.
+-- Laws on preparing the method of a secret-key distribution, and on the method that is prepared.
 pub mod Preparing
-pub mod SameMethod
-pub mod MethodFloats
+pub mod Prepared

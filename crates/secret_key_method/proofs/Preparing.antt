@@ -15,12 +15,13 @@ use Rattle.distr.proofs.Reading.{or-false}
 use Rattle.distr.proofs.Drawing.{not-refused}
 use Rattle.gaussian_core.proofs.Made.{made-number as made-gaussian-number, made-parameters}
 use Rattle.draw_laws.proofs.Making.{judged-same}
-use Rattle.secret_key_method.specs.declared.PreparedSecretKeyMethod.{PreparedSecretKeyMethod}
-use Rattle.secret_key_method.specs.declared.SecretKeyMethod.{SecretKeyMethod}
-use Rattle.secret_key_method.specs.declared.SecretKeyMethod.the-variants.{Binary, Ternary, Gaussian, Empty}
-use Rattle.secret_key_method.specs.Method.{prepared, judgedMethod, preparing}
+use Rattle.methods.specs.declared.PreparedMethod.{PreparedMethod}
+use Rattle.methods.specs.declared.SamplingMethod.{SamplingMethod}
+use Rattle.methods.specs.declared.SamplingMethod.the-variants.{Binary, Ternary, Gaussian, Empty}
+use Rattle.methods.specs.Method.{judgedMethod}
+use Rattle.secret_key_method.specs.Method.{prepared, preparing}
 
-abbrev hold : ℕ → SecretKeyMethod → PreparedSecretKeyMethod
+abbrev hold : ℕ → SamplingMethod → PreparedMethod
 hold number method = record { number = number; method = method }
 
 pub prepares-binary : (p : Float) → judgedMethod (madeThreshold p .number) (Binary (madeThreshold p .threshold)) ≡ preparing (Distr.Binary p)

@@ -1,3 +1,3 @@
--- What is prepared for a distribution: its method, and the method's key. Which family a distribution is of.
+-- What is prepared for a secret-key distribution, and which family it is of.
 pub mod Method
 pub mod Family

@@ -1,6 +1,3 @@
--- Laws on making a secret-key sampler, on which samplers making gives, and on its draws.
+-- Laws on making a secret-key sampler, and on which samplers making gives.
 pub mod Made
 pub mod SamplerFloats
-pub mod Answers
-pub mod CrtAnswers
-pub mod Calls

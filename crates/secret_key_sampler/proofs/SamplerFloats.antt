@@ -6,8 +6,10 @@ use lib.Ieee.Fits.{and-i}
 use mir.Val.{Val}
 use denote.Shadow.{shadow}
 use denote.Struct.Declared.{row}
-use Rattle.secret_key_method.specs.Method.{prepared, methodKey}
-use Rattle.secret_key_method.proofs.MethodFloats.{method-fits, distr-fits}
+use Rattle.methods.specs.Keys.{methodKey}
+use Rattle.secret_key_method.specs.Method.{prepared}
+use Rattle.methods.proofs.MethodFloats.{method-fits}
+use Rattle.secret_key_method.proofs.Prepared.{distr-fits}
 use Rattle.secret_key_sampler.specs.declared.SecretKeySampler.{SecretKeySampler}
 use Rattle.secret_key_sampler.proofs.SecretKeySampler.{the-type as sampler-type}
 use Rattle.secret_key_sampler.proofs.Made.{fitting}

@@ -1,3 +1,2 @@
 -- Making a secret-key sampler, and which samplers making gives.
 pub mod Sampler
-pub mod Crt

@@ -1,17 +1,12 @@
 -- Making a secret-key sampler, and which samplers making gives.
-use Prim.Native.Nat.{ℕ}
 use mathlib.Core.Bool.{Bool, cond, _&&_}
-use mathlib.Core.List.{List, [], _∷_}
 use lib.Dec.{eqb}
 use Rattle.distr.specs.declared.secret_key_distr.SecretKeyDistr.{SecretKeyDistr}
 use Rattle.distr.specs.declared.secret_key_distr.SecretKeyDistr.the-variants as Distr
-use Rattle.distr.specs.Distribution.{secret}
 use Rattle.distr.specs.Making.{secretNumber}
-use Rattle.distr.specs.Numbers.{lengthNumber, modulusNumber}
-use Rattle.methods.specs.Keys.{sameKey}
-use Rattle.secret_key_method.specs.declared.SecretKeyMethod.{SecretKeyMethod}
-use Rattle.secret_key_method.specs.declared.SecretKeyMethod.the-variants.{Empty}
-use Rattle.secret_key_method.specs.Method.{prepared, magnitudeOf, methodKey}
+use Rattle.methods.specs.declared.SamplingMethod.the-variants.{Empty}
+use Rattle.methods.specs.Keys.{methodKey, sameKey}
+use Rattle.secret_key_method.specs.Method.{prepared}
 use Rattle.secret_key_sampler.specs.declared.SecretKeySampler.{SecretKeySampler}
 use Rattle.secret_key_sampler.specs.declared.MadeSecretKeySampler.{MadeSecretKeySampler}
 
@@ -28,7 +23,3 @@ making d =
 -- "21 a sampler that making never gives, the empty one included": making the sampler's own distribution gives exactly it.
 abbrev pub isMade : SecretKeySampler → Bool
 isMade s = eqb (secretNumber (s .distr)) 0 && sameKey (methodKey (s .method)) (methodKey (prepared (s .distr)))
-
--- What refuses a key of so many residues of a modulus, by the distribution's length and the method's largest magnitude: 7 or 8, then 9.
-abbrev pub residueNumbers : SecretKeyDistr → SecretKeyMethod → ℕ → ℕ → List ℕ
-residueNumbers d method n modulus = lengthNumber (secret d) n ∷ modulusNumber (magnitudeOf method) modulus ∷ []

@@ -1,31 +1,31 @@
 // Behind primus_distr, by which callers reach it: whole keys from lent words, by a prepared sampler with signed, encoded and CRT output.
-mod crt;
-mod encoded;
-mod signed;
+mod draws;
 
 use distr::refusal::NEVER_MADE;
 use distr::secret_key_distr::SecretKeyDistr;
-use methods::same_key;
-use numbers::block_number;
-use numbers::weight_number;
-use secret_key_method::SecretKeyMethod;
+use methods::PreparedMethod;
+use methods::SamplingMethod;
+use methods::key::method_key;
+use methods::key::same_key;
+use methods::length_number;
+use methods::tested;
+use methods::validated_modulus;
 pub use secret_key_method::family::is_binary;
 pub use secret_key_method::family::is_ternary;
-use secret_key_method::key::method_key;
 use secret_key_method::prepare;
 ghost use mathlib.Core.Path.{_≡_};
 ghost use mathlib.Core.Bool.{not};
 ghost use mathlib.Core.List.{[], _∷_};
 ghost use Rattle.distr.specs.Distribution.{secret};
-ghost use Rattle.distr.specs.Making.{refuse};
-ghost use Rattle.distr.specs.Numbers.{firstOf, lengthNumber};
-ghost use Rattle.secret_key_method.specs.Method.{magnitudeOf};
+ghost use Rattle.distr.specs.Making.{refuse, largest};
+ghost use Rattle.distr.specs.Numbers.{firstOf, lengthNumber, modulusNumber};
+ghost use Rattle.methods.specs.Method.{testedMethod, magnitudeOf};
 ghost use Rattle.secret_key_sampler.specs.Sampler.{making, isMade};
 
 // A prepared sampler. Its fields are public, so a draw judges first whether making gives it (21).
 pub struct SecretKeySampler {
     pub distr: SecretKeyDistr,
-    pub method: SecretKeyMethod,
+    pub method: SamplingMethod,
 }
 
 // What making hands back: number 0 and the sampler, or the number that refuses and the empty sampler.
@@ -52,7 +52,7 @@ impl SecretKeySampler {
                 number,
                 sampler: SecretKeySampler {
                     distr: SecretKeyDistr::UniformBinary,
-                    method: SecretKeyMethod::Empty,
+                    method: SamplingMethod::Empty,
                 },
             }
         }
@@ -65,8 +65,17 @@ impl SecretKeySampler {
         if !is_made(self) {
             return NEVER_MADE;
         }
-        let distr = self.distr;
-        length_number(distr, length)
+        let method = self.method;
+        length_number(method, length)
+    }
+
+    // 0, or 21 for a sampler that making never gives, 9 for a modulus that is not above the largest magnitude.
+    pub fn validate_modulus(self, modulus: u64) -> u32
+        ensures { λ r. ⌜ r ≡ firstOf (refuse (not (isMade self)) 21 ∷ modulusNumber (largest (secret (self .distr))) modulus ∷ []) ⌝ }
+    {
+        let made = is_made(self);
+        let method = self.method;
+        validated_modulus(made, methods::maximum_magnitude(method), modulus)
     }
 
     // The distribution; of a sampler that making never gives, the one that it holds (the empty sampler holds UniformBinary).
@@ -82,7 +91,16 @@ impl SecretKeySampler {
         ensures { λ r. ⌜ r ≡ magnitudeOf (self .method) ⌝ }
     {
         let method = self.method;
-        secret_key_method::maximum_magnitude(method)
+        methods::maximum_magnitude(method)
+    }
+
+    // What the sampler draws by: its method, with 21 where making never gives the sampler.
+    pub fn prepared(self) -> PreparedMethod
+        ensures { λ r. ⌜ r ≡ testedMethod (isMade self) (self .method) ⌝ }
+    {
+        let made = is_made(self);
+        let method = self.method;
+        tested(made, method)
     }
 }
 
@@ -96,37 +114,4 @@ pub fn is_made(sampler: SecretKeySampler) -> bool
     let again = prepared.method;
     let same = same_key(method_key(method), method_key(again));
     (prepared.number == 0) & same
-}
-
-// What refuses a length of a key of the distribution: 7 for weights over it, 8 for no whole number of blocks, else 0.
-pub(crate) fn length_number(distr: SecretKeyDistr, length: usize) -> u32
-    ensures { λ r. ⌜ r ≡ lengthNumber (secret distr) length ⌝ }
-{
-    match distr {
-        SecretKeyDistr::UniformBinary => 0,
-        SecretKeyDistr::Binary { one_probability: _ } => 0,
-        SecretKeyDistr::SparseTernary => 0,
-        SecretKeyDistr::UniformTernary => 0,
-        SecretKeyDistr::Ternary {
-            negative_one_probability: _,
-            one_probability: _,
-        } => 0,
-        SecretKeyDistr::FixedHammingWeightBinary { hamming_weight } => {
-            weight_number(hamming_weight, 0, length)
-        }
-        SecretKeyDistr::BlockBinary {
-            block_size,
-            occupancy: _,
-        } => block_number(block_size, length),
-        SecretKeyDistr::FixedHammingWeightTernary { hamming_weight } => {
-            weight_number(hamming_weight, 0, length)
-        }
-        SecretKeyDistr::FixedCompositionTernary {
-            negative_one_weight,
-            one_weight,
-        } => weight_number(negative_one_weight, one_weight, length),
-        SecretKeyDistr::Gaussian {
-            standard_deviation: _,
-        } => 0,
-    }
 }

@@ -12,7 +12,7 @@ use Rattle.distr.specs.Distribution.{Distr, secret, error}
 use Rattle.distr.specs.Constants.{invalidSheet}
 use Rattle.distr.specs.Draw.{Outcome, signedAtOnce, encodedAtOnce}
 use Rattle.any_sampler.specs.declared.AnyDistr.{AnyDistr}
-use Rattle.any_sampler.specs.declared.AnyDistr.the-variants.{Refused}
+use Rattle.any_sampler.specs.declared.AnyDistr.the-variants.{Unknown}
 use Rattle.any_sampler.specs.Either.{anyOf}
 
 -- The kinds are the numbers 1 to 9; any other number is refused.
@@ -38,7 +38,7 @@ kindDistr kind a b =
 
 -- What a kind selects: its distribution, or number 14.
 abbrev pub selected : ℕ → ℕ → ℕ → AnyDistr
-selected kind a b = cond (knownKind kind) (anyOf (kindDistr kind a b)) (Refused invalidSheet)
+selected kind a b = cond (knownKind kind) (anyOf (kindDistr kind a b)) Unknown
 
 -- Number 14 for another kind; else the draw, from the first word on. The numbers of making come before those of the draw, and a sheet lends no tables.
 abbrev pub known : {A : Type 0} → ℕ → List A → Outcome A → Outcome A

@@ -3,9 +3,11 @@
 use any_sampler::AnyDistr;
 use distr::answer::Answer;
 use distr::error_distribution::ErrorDistribution;
-use distr::refusal::INVALID_SHEET;
 use distr::secret_key_distr::BlockOccupancy;
 use distr::secret_key_distr::SecretKeyDistr;
+use prepared_draws::encoded;
+use prepared_draws::encoded::ResidueMethod;
+use prepared_draws::signed;
 ghost use mathlib.Core.Path.{_≡_};
 ghost use Rattle.distr.specs.Draw.{outcome};
 ghost use Rattle.sheet_request.specs.Request.{selected, requestSigned, requestEncoded};
@@ -37,7 +39,7 @@ fn select(kind: u32, a: u32, b: u32) -> AnyDistr
             one_weight: b as usize,
         }),
         9 => AnyDistr::Error(ErrorDistribution::CenteredBinomial { eta: a }),
-        0 | 10..=0xffff_ffff => AnyDistr::Refused(INVALID_SHEET),
+        0 | 10..=0xffff_ffff => AnyDistr::Unknown,
     }
 }
 
@@ -46,7 +48,8 @@ fn select(kind: u32, a: u32, b: u32) -> AnyDistr
 pub fn draw_signed(output: &mut [i64], kind: u32, a: u32, b: u32, words: &[u32]) -> Answer
     ensures { λ r. ⌜ outcome r (now (output .exit)) ≡ requestSigned kind a b (now (words .entry)) (now (output .entry)) ⌝ }
 {
-    select(kind, a, b).draw_signed(output, &[], &[], &[], &[], words, 0)
+    let by = select(kind, a, b).prepare();
+    signed::sample_signed_to(output, by, &[], &[], &[], &[], words, 0)
 }
 
 // Draws residues of a modulus: "kind 9 with a modulus draws as CRT of one".
@@ -60,5 +63,7 @@ pub fn draw_encoded(
 ) -> Answer
     ensures { λ r. ⌜ outcome r (now (output .exit)) ≡ requestEncoded kind a b modulus (now (words .entry)) (now (output .entry)) ⌝ }
 {
-    select(kind, a, b).draw_encoded(output, modulus, &[], &[], &[], &[], words, 0)
+    let prepared = select(kind, a, b).prepare();
+    let by = ResidueMethod { prepared, modulus };
+    encoded::sample_encoded_to(output, by, &[], &[], &[], &[], words, 0)
 }

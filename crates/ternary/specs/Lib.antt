@@ -1,3 +1,2 @@
--- What the draws by two thresholds are: the rule of a prepared sampler, and the table form of the loops.
+-- What the draws by two thresholds are: the rule of a prepared sampler, and the plan that the loops go by.
 pub mod Sampler
-pub mod Picked

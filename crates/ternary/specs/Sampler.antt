@@ -1,10 +1,11 @@
 -- A prepared ternary sampler: what the thresholds prepare, and the rule that it draws by.
-use Prim.Native.Nat.{ℕ, _^_, max}
+use Prim.Native.Nat.{ℕ, _+_, _^_}
 use mathlib.Core.Bool.{cond, true, false}
 use mathlib.Core.List.{List}
-use lib.Dec.{eqb}
+use lib.Dec.{ltb, eqb}
 use lib.ListN.{length}
 use lib.IntN.{ℤ, pos}
+use mir.Val.{boolByte}
 use Rattle.distr.specs.Rule.{Rule, constant, wideWords}
 use Rattle.distr.specs.Packed.{minusOne}
 use Rattle.distr.specs.Thresholds.{nonzeroEnd, ternaryValue}
@@ -38,9 +39,13 @@ samplerOf N P =
     (cond (eqb P (2 ^ 64)) (Constant One)
     (cond (eqb (nonzeroEnd N P) (2 ^ 64)) (Nonzero N) (General N (nonzeroEnd N P)))))
 
--- What a sampler does, whatever the type of its output: whether it reads, what it gives where not, and what for a word below one end
--- and below none. Where E is below N no word is 1, so the second end is the larger.
+-- What a sampler does, whatever the type of its output: whether it reads, what it gives where not, and the two ends. Where no word gives 0
+-- none is below the second end, and 1 stands above it.
 unfoldable pub planOf : TernaryEnds → Plan
-planOf (Constant v) = record { reads = false; constant = v; between = 0; above = 0; «first_end» = 0; «second_end» = 0 }
-planOf (Nonzero N) = record { reads = true; constant = Zero; between = 0; above = 1; «first_end» = N; «second_end» = N }
-planOf (General N E) = record { reads = true; constant = Zero; between = 1; above = 0; «first_end» = N; «second_end» = max N E }
+planOf (Constant v) = record { reads = false; constant = v; above = 0; «first_end» = 0; «second_end» = 0 }
+planOf (Nonzero N) = record { reads = true; constant = Zero; above = 1; «first_end» = N; «second_end» = 0 }
+planOf (General N E) = record { reads = true; constant = Zero; above = 0; «first_end» = N; «second_end» = E }
+
+-- What a plan gives for a 64-bit word.
+unfoldable pub planValue : Plan → ℕ → ℤ
+planValue p w = cond (ltb w (p .«first_end»)) minusOne (pos (p .above + boolByte (ltb w (p .«second_end»))))

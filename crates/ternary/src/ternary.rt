@@ -1,7 +1,6 @@
 // `Ternary`: the ends of two thresholds, and what they ask for.
 use distr::threshold::Threshold;
 ghost use mathlib.Core.Path.{_≡_};
-ghost use Prim.Native.Nat.{max};
 ghost use Rattle.words.specs.Reading.{thresholdValue};
 ghost use Rattle.ternary.specs.Sampler.{samplerOf, planOf};
 
@@ -22,25 +21,18 @@ pub enum TernaryEnds {
     General { negative_end: u64, nonzero_end: u64 },
 }
 
-// What the ends ask for, whatever the type of the output. Where it reads words, one below both ends gives -1, one below one of them
-// `between`, one below neither `above`, each 0 or 1; where it reads none, every coefficient is the constant.
+// What the ends ask for, whatever the type of the output. Where it reads words, one below first_end gives -1, another `above`, and 1 more
+// where it is below second_end; where it reads none, every coefficient is the constant.
 pub struct Plan {
     pub reads: bool,
     pub constant: TernaryValue,
-    pub between: u32,
     pub above: u32,
     pub first_end: u64,
     pub second_end: u64,
 }
 
-// The larger of two ends.
-fn larger(a: u64, b: u64) -> u64
-    ensures { λ r. ⌜ r ≡ max a b ⌝ }
-{
-    if a < b { b } else { a }
-}
-
-// The plan of each kind of ends. Where the nonzero end is below the negative one no word is 1, so the second end is the larger.
+// The plan of each kind of ends. Where no word gives 0 none is below the second end, and those above the first give 1 all the same: so one
+// sum serves both kinds, and the loop has nothing to branch on.
 pub fn plan_of(ends: TernaryEnds) -> Plan
     ensures { λ r. ⌜ r ≡ planOf ends ⌝ }
 {
@@ -48,7 +40,6 @@ pub fn plan_of(ends: TernaryEnds) -> Plan
         TernaryEnds::Constant(value) => Plan {
             reads: false,
             constant: value,
-            between: 0,
             above: 0,
             first_end: 0,
             second_end: 0,
@@ -56,10 +47,9 @@ pub fn plan_of(ends: TernaryEnds) -> Plan
         TernaryEnds::Nonzero { negative_end } => Plan {
             reads: true,
             constant: TernaryValue::Zero,
-            between: 0,
             above: 1,
             first_end: negative_end,
-            second_end: negative_end,
+            second_end: 0,
         },
         TernaryEnds::General {
             negative_end,
@@ -67,10 +57,9 @@ pub fn plan_of(ends: TernaryEnds) -> Plan
         } => Plan {
             reads: true,
             constant: TernaryValue::Zero,
-            between: 1,
             above: 0,
             first_end: negative_end,
-            second_end: larger(negative_end, nonzero_end),
+            second_end: nonzero_end,
         },
     }
 }

@@ -35,7 +35,8 @@ pub fn sample_to(
     words: &[u32],
     place: usize,
 ) -> Answer
-    ensures { λ r. ⌜ outcome r (now (output .exit)) ≡ samplerDraw (held encoding) ends (now (words .entry)) place (now (output .entry)) ⌝ }
+    ensures { λ r. ⌜ outcome r (now (output .exit)) ≡
+        samplerDraw (held encoding) ends (now (words .entry)) place (now (output .entry)) ⌝ }
 {
     let plan = plan_of(ends);
     let answer = wide_words::answer_of(0, plan.reads, words.len(), place, output.len());
@@ -51,9 +52,6 @@ pub fn sample_to(
         fill(output, encoded(encoding, value));
         return answer;
     }
-    let values: [Out; 3] = [minus_one(encoding), plan.between as Out, plan.above as Out];
-    let low = plan.first_end;
-    let high = plan.second_end;
-    ends::pick(output, low, high, &values, words, place);
+    ends::fill(output, encoding, plan, words, place);
     answer
 }

@@ -3,6 +3,7 @@ pub mod Floats
 pub mod LayerTables
 pub mod Trying
 pub mod Proposing
+pub mod Attempting
 pub mod Passing
 pub mod ZeroThreshold
 pub mod Filling

@@ -10,9 +10,16 @@ use lib.Bits.{bitAnd, and-mask}
 use lib.Dec.{T, leb, ltb, eqb, lt→ltb, lit<}
 use borrow.Author.Tests.{eqb-true}
 use lib.ListN.{length, getD, drop, length-drop}
+use mir.Syntax.{w32, w64}
+use mir.Val.{Fits}
+use mir.Facts.{fits-widen}
 use Rattle.distr.specs.Words.{Read, got, short, mapRead, bindRead, word, choose, coin}
 use Rattle.distr.proofs.Reading.{choose-accept}
+use Rattle.words.specs.declared.Taken.{Taken}
+use Rattle.words.specs.declared.Taken.the-variants.{Got as There, Short as Missing}
+use Rattle.words.specs.Reading.{taken}
 use Rattle.words.proofs.Places.{choose-none, coin-there}
+use Rattle.words.proofs.Taking.{took-choice, chosen-below, taken-short}
 use Rattle.ziggurat.specs.declared.sampling.Proposal.the-variants.{Got, Short}
 use Rattle.ziggurat.specs.Tables.{layerSizes}
 use Rattle.ziggurat.specs.Sampling.{Proposed, propose, Proposes, OnLayer}
@@ -32,6 +39,35 @@ masks : (w R : ℕ) → T (eqb R 128 || eqb R 256 || eqb R 512) → (0 < R) × (
 masks w = by-size (λ R. (0 < R) × (R * (2 ^ 32 / R) ≡ 2 ^ 32) × (w % R ≡ bitAnd w (R - 1)))
     (lit< tt, refl, sym (and-mask w 7)) (lit< tt, refl, sym (and-mask w 8)) (lit< tt, refl, sym (and-mask w 9))
 
+-- the layer that a word chooses is one of the tables'
+module _ (endpoints : List ℕ) (w : ℕ) (sizes : T (layerSizes endpoints)) where
+  some-layer : 0 < length endpoints - 1
+  some-layer = masks w (length endpoints - 1) sizes .0
+
+  mask : w % (length endpoints - 1) ≡ bitAnd w (length endpoints - 2)
+  mask =
+      let less : length endpoints - 1 - 1 ≡ length endpoints - 2 = omega arith in
+      rw less at (masks w (length endpoints - 1) sizes .2)
+
+  pub layer-there : bitAnd w (length endpoints - 2) + 1 < length endpoints
+  layer-there = omega (arith, mod-lt w {m = length endpoints - 1} some-layer, mask, some-layer)
+
+pub two-endpoints : (endpoints : List ℕ) → T (layerSizes endpoints) → 2 ≤ length endpoints
+two-endpoints endpoints sizes = omega (arith, layer-there endpoints 0 sizes)
+
+pub layer-fits : (endpoints : List ℕ) (w : ℕ) → T (layerSizes endpoints) → length endpoints * 8 < 2 ^ 63
+    → Fits w64 (bitAnd w (length endpoints - 2) + 1)
+layer-fits endpoints w sizes room = record { fits = omega (arith, layer-there endpoints w sizes) }
+
+-- a word has 32 bits
+pub word-fits : (ws : List ℕ) (i : ℕ) → ((j : ℕ) → Fits w32 (getD ws j 0)) → Fits w64 (getD ws i 0)
+word-fits ws i each = fits-widen tt (each i)
+
+-- and so has a magnitude up to an endpoint that has them
+pub magnitude-fits : (ws : List ℕ) (i end m after : ℕ) (r : Taken) → r ≡ There m after → r ≡ taken (length ws) (choose (end + 1) (drop i ws)) → end ≤ 0xffff_ffff
+    → Fits w32 m
+magnitude-fits ws i end m after r e told small = record { fits = omega (arith, chosen-below ws i m after (end + 1) (sym e ∙ told)) }
+
 module _ (endpoints ws : List ℕ) (place : ℕ) where
   -- a try with fewer than two words left lacks one
   few : (xs : List ℕ) → length xs < 2 → propose endpoints xs ≡ short
@@ -47,42 +83,47 @@ module _ (endpoints ws : List ℕ) (place : ℕ) where
   pub few-words : length ws - place < 2 → Proposes endpoints ws place Short
   few-words h = record { reads = sym (few (drop place ws) (omega (arith, length-drop place ws))); sound = tt }
 
-  module _ (sizes : T (layerSizes endpoints)) (there : place + 1 < length ws) (small : getD ws place 0 < 2 ^ 32) where
-    abbrev pub chosen : ℕ
+  module _ (sizes : T (layerSizes endpoints)) (two : 2 ≤ length ws - place) (each : (i : ℕ) → Fits w32 (getD ws i 0)) where
+    abbrev chosen : ℕ
     chosen = bitAnd (getD ws place 0) (length endpoints - 2)
 
-    mask : getD ws place 0 % (length endpoints - 1) ≡ chosen
-    mask =
-        let less : length endpoints - 1 - 1 ≡ length endpoints - 2 = omega arith in
-        rw less at (masks (getD ws place 0) (length endpoints - 1) sizes .2)
-
-    pub chosen-there : chosen + 1 < length endpoints
-    chosen-there =
-        let some : 0 < length endpoints - 1 = masks (getD ws place 0) (length endpoints - 1) sizes .0 in
-        omega (arith, mod-lt (getD ws place 0) {m = length endpoints - 1} some, mask)
+    abbrev end : ℕ
+    end = getD endpoints (chosen + 1) 0
 
     layer : choose (length endpoints - 1) (drop place ws) ≡ got chosen (drop (suc place) ws)
     layer =
         let whole = masks (getD ws place 0) (length endpoints - 1) sizes .1 in
-        choose-accept (length endpoints - 1) place ws (omega arith) (rw whole (lt→ltb (getD ws place 0) (2 ^ 32) small))
-        ∙ ap (λ (c : ℕ). got c (drop (suc place) ws)) mask
+        choose-accept (length endpoints - 1) place ws (omega arith) (rw whole (lt→ltb (getD ws place 0) (2 ^ 32) (each place .fits)))
+        ∙ ap (λ (c : ℕ). got c (drop (suc place) ws)) (mask endpoints (getD ws place 0) sizes)
 
     tossed : coin (drop (suc place) ws) ≡ got (leb (2 ^ 31) (getD ws (place + 1) 0)) (drop (place + 2) ws)
     tossed =
         rw (add-one place, add-two place) (coin-there ws (suc place) (leb (2 ^ 31) (getD ws (suc place) 0)) (omega arith) refl)
 
-    pub no-magnitude : choose (suc (getD endpoints (chosen + 1) 0)) (drop (place + 2) ws) ≡ short → Proposes endpoints ws place Short
+    lacking : choose (suc end) (drop (place + 2) ws) ≡ short → Proposes endpoints ws place Short
     unfolding propose bindRead mapRead
-    no-magnitude e = record { reads = rw (layer, tossed, e); sound = tt }
+    lacking e = record { reads = rw (layer, tossed, e); sound = tt }
 
     -- no word is accepted where the endpoint is 2^32 or more
-    pub far-endpoint : 2 ^ 32 ≤ getD endpoints (chosen + 1) 0 → Proposes endpoints ws place Short
+    pub far-endpoint : 2 ^ 32 ≤ end → Proposes endpoints ws place Short
     far-endpoint h =
-        let many = suc (getD endpoints (chosen + 1) 0) in
-        no-magnitude (choose-none many (drop (place + 2) ws) (rw (div-eq-of-lt {n = 2 ^ 32} {m = many} (omega arith)) (mul-zero many)))
+        lacking (choose-none (suc end) (drop (place + 2) ws) (rw (div-eq-of-lt {n = 2 ^ 32} {m = suc end} (omega arith)) (mul-zero (suc end))))
 
-    pub all-three : (m after : ℕ) → choose (suc (getD endpoints (chosen + 1) 0)) (drop (place + 2) ws) ≡ got m (drop after ws)
-        → OnLayer endpoints (chosen + 1) m → place < after → after ≤ length ws
-        → Proposes endpoints ws place (Got (record { layer = chosen + 1; positive = leb (2 ^ 31) (getD ws (place + 1) 0); magnitude = m; place = after }))
-    unfolding propose bindRead mapRead
-    all-three m after e on later within = record { reads = rw (layer, tossed, e); sound = (on, later, within) }
+    -- the magnitude, as it was taken
+    module _ (r : Taken) (told : r ≡ taken (length ws) (choose (end + 1) (drop (place + 2) ws))) where
+      pub no-magnitude : r ≡ Missing → Proposes endpoints ws place Short
+      no-magnitude e = lacking (rw (add-one end) at (taken-short (length ws) (choose (end + 1) (drop (place + 2) ws)) (sym e ∙ told)))
+
+      module _ (m after : ℕ) (e : r ≡ There m after) (small : end ≤ 0xffff_ffff) where
+        pub all-three :
+            Proposes endpoints ws place (Got (record { layer = chosen + 1; positive = leb (2 ^ 31) (getD ws (place + 1) 0); magnitude = m; place = after }))
+        unfolding propose bindRead mapRead
+        all-three =
+            let took = took-choice ws (place + 2) m after (end + 1) (sym e ∙ told) in
+            let on : OnLayer endpoints (chosen + 1) m = record {
+              some = omega arith;
+              there = layer-there endpoints (getD ws place 0) sizes;
+              below = omega (arith, chosen-below ws (place + 2) m after (end + 1) (sym e ∙ told));
+              small = omega arith;
+            } in
+            record { reads = rw (layer, tossed, rw (add-one end) at (took .reads)); sound = (on, omega (arith, took .later), took .within) }

@@ -1,168 +1,199 @@
 -- A filling loop, turn by turn: what a try makes of the output and of the words left, over any element type.
-use mathlib.Core.Path.{_≡_, sym, ap, _∙_}
-use mathlib.Core.Bool.{Bool, true, false, cond}
+use mathlib.Core.Path.{_≡_, sym, ap, subst, _∙_}
+use mathlib.Core.Bool.{Bool, true, false, not, cond}
 use mathlib.Core.List.{List, map}
 use mathlib.Core.Logic.{_⊎_, inl, inr}
-use Prim.Native.Nat.{ℕ, _+_, _<_, _≤_}
+use Prim.Native.Nat.{ℕ, _+_, _-_, _*_, _<_, _≤_}
 use native.Mathlib.Nat.{add-zero}
 use native.Mathlib.Omega.{arith}
-use mir.Val.{boolByte}
+use borrow.Author.Tests.{not-false}
+use mir.Syntax.{w64}
+use mir.Val.{Fits, boolByte}
 use lib.Dec.{T}
-use lib.ListN.{length, drop, set, replicate}
+use lib.ListN.{length, getD, drop, set, replicate}
 use lib.IntN.{ℤ, pos}
-use lib.Ieee.{Float}
+use lib.Ieee.{Float, nan}
 use Rattle.distr.specs.Words.{Read, got, short}
+use Rattle.distr.specs.Constants.{outputLimit, invalidLayerTables, outOfWords}
+use Rattle.distr.specs.Making.{refuse}
 use Rattle.distr.specs.Gaussian.{withSign}
 use Rattle.distr.specs.Layered.{Layers, layerTables, zeroThreshold, judge, layeredOne, layered}
-use Rattle.distr.specs.Draw.{Outcome, settled}
+use Rattle.distr.specs.declared.answer.Answer.{Answer}
+use Rattle.distr.specs.Answers.{refusal, success}
+use Rattle.distr.specs.Draw.{Outcome, outcome, settled}
 use Rattle.distr.specs.declared.gaussian_parameters.GaussianParameters.{GaussianParameters}
 use Rattle.distr.specs.declared.threshold.Threshold.{Threshold}
 use Rattle.distr.proofs.Reading.{map-read-same}
-use Rattle.distr.proofs.Writing.{map-replicate}
-use Rattle.distr.proofs.Drawing.{settled-got, settled-short}
+use Rattle.distr.proofs.Writing.{map-id, map-replicate}
+use Rattle.distr.proofs.Drawing.{not-refused, settled-got, settled-short}
+use Rattle.numbers.proofs.Refusing.{drawNumber, number-by, number-passed, read-refused, read-passed}
 use Rattle.words.specs.Reading.{thresholdValue}
 use Rattle.words.proofs.Places.{place-of}
 use Rattle.ziggurat.specs.declared.sampling.Trial.{Trial}
 use Rattle.ziggurat.specs.declared.sampling.Attempted.{Attempted}
 use Rattle.ziggurat.specs.declared.sampling.Attempted.the-variants.{Got, Short}
-use Rattle.ziggurat.specs.Tables.{layerSizes}
-use Rattle.ziggurat.specs.Sampling.{OnTables, judgeEdge, edgeWords, Ready, Lacks, unproposed, unjudged, Attempts}
+use Rattle.ziggurat.specs.Tables.{tables, layerSizes, layeredDraw}
+use Rattle.ziggurat.specs.Sampling.{OnTables, zeroOver, judgeEdge, edgeWords, Ready, Lacks, unproposed, unjudged, Attempts}
 use Rattle.ziggurat.proofs.LayerTables.{sizes}
-use Rattle.ziggurat.proofs.Filling.{Filled, filled-turn, filled-short, filled-all}
+use Rattle.ziggurat.proofs.ZeroThreshold.{first-there, zero-made}
+use Rattle.ziggurat.proofs.Filling.{Filled, filled-none, filled-turn, filled-short, filled-all}
 use Rattle.ziggurat.proofs.Passing.{on-tables, judge-sides, edge-lacks}
 use Rattle.ziggurat.proofs.Trying.{none-proposed, none-judged, one-judged}
 
--- what a loop is given: how a coefficient is written, the deviation and its good tables, the threshold of zero, the words and the output
-pub record Given (A : Type 0) : Type 0 where
-  pub write : List ℤ → List A
-  pub put : ℤ → A
-  pub each : (cs : List ℤ) → write cs ≡ map put cs
-  pub deviation : Float
-  pub most : ℕ
-  pub layers : Layers
-  pub good : T (layerTables most layers)
-  pub threshold : ℕ
-  pub zero : threshold ≡ zeroThreshold layers
-  pub words : List ℕ
-  pub place : ℕ
-  pub output : List A
+-- signed output holds the coefficients themselves
+pub signed-each : (cs : List ℤ) → cs ≡ map (λ c. c) cs
+signed-each cs = sym (map-id cs)
 
-abbrev pub given : {A : Type 0} (write : List ℤ → List A) (put : ℤ → A) → ((cs : List ℤ) → write cs ≡ map put cs)
-    → (parameters : GaussianParameters) (zero : Threshold) (t : Layers) (words : List ℕ) (place : ℕ) → List A
-    → T (layerTables (parameters .«maximum_magnitude») t) × ((thresholdValue zero ≡ zeroThreshold t) × (place ≤ length words)) → Given A
-given write put each parameters zero t words place output pre = record {
-  write = write;
-  put = put;
-  each = each;
-  deviation = parameters .«standard_deviation»;
-  most = parameters .«maximum_magnitude»;
-  layers = t;
-  good = pre .0;
-  threshold = thresholdValue zero;
-  zero = pre .1 .0;
-  words = words;
-  place = place;
-  output = output;
-}
+module _ {A : Type 0} (write : List ℤ → List A) (parameters : GaussianParameters) (endpoints : List ℕ) (heights curve : List Float)
+    (words : List ℕ) (place : ℕ) (out₀ : List A) where
+  abbrev t : Layers
+  t = tables endpoints heights curve
 
--- the coefficient of the words left, the loop's invariant, and what the loop is to hand back
-module _ {A : Type 0} (g : Given A) where
   abbrev one : List ℕ → Read ℤ
-  one = layeredOne (g .deviation) (g .layers)
+  one = layeredOne (parameters .«standard_deviation») t
 
-  abbrev pub Held : ℕ → ℕ → List A → Type 0
-  Held i at out = Filled (g .put) one (g .words) (g .place) (g .output) i at out
+  abbrev draw : Outcome A
+  draw = layeredDraw write parameters t words place out₀
 
-  abbrev pub settles : Outcome A
-  settles =
-      settled (g .write) (length (g .words)) (g .place) (length (g .output)) (layered (g .deviation) (g .layers) (length (g .output)) (drop (g .place) (g .words)))
+  -- the tables are good, the threshold is that of zero, the output is not too long, what is settled is the draw, and so much of the output is
+  -- filled, each element by `put`
+  pub record Turning (put : ℤ → A) (zero : Threshold) (i at : ℕ) (out : List A) : Type 0 where
+    pub each : (cs : List ℤ) → write cs ≡ map put cs
+    pub good : T (layerTables (parameters .«maximum_magnitude») t)
+    pub threshold : thresholdValue zero ≡ zeroThreshold t
+    pub limited : length out₀ ≤ outputLimit
+    pub draws : settled write (length words) place (length out₀) (layered (parameters .«standard_deviation») t (length out₀) (drop place words)) ≡ draw
+    pub filled : Filled put one words place out₀ i at out
 
-  -- the loop ends where the output is full
-  pub full : (i at : ℕ) (out : List A) → Held i at out → length (g .output) ≤ i → record { number = 0; place = at; output = out } ≡ settles
-  full i at out held h =
-      settled-got (g .write) (length (g .words)) (g .place) (length (g .output)) out _ (drop at (g .words)) (place-of (g .words) at (held .within))
-      (map-read-same (g .write) (map (g .put)) (g .each) _ ∙ filled-all (g .put) one (g .words) (g .place) (g .output) i at out h held)
+  -- before the loop: the number is the first that refuses, 13 by the tables
+  module _ {own number : ℕ} (judged : own ≡ refuse (not (layerTables (parameters .«maximum_magnitude») t)) invalidLayerTables)
+      (numbered : number ≡ drawNumber (length words) place (length out₀) own) where
+    by-tables : number ≡ drawNumber (length words) place (length out₀) (refuse (not (layerTables (parameters .«maximum_magnitude») t)) invalidLayerTables)
+    by-tables = number-by (length words) place (length out₀) own _ judged numbered
 
-  -- a turn: an attempt at a place of the output that is not filled yet
-  pub record Turn : Type 0 where
-    pub i : ℕ
-    pub at : ℕ
-    pub out : List A
-    pub held : Held i at out
-    pub more : i < length (g .output)
-    pub told : Attempted
-    pub attempts : Attempts (g .layers .endpoints) (g .threshold) (g .words) at told
+    pub draw-refused : {answer : Answer} → (number ≡ 0 → ⊥) → answer ≡ refusal number place → outcome answer out₀ ≡ draw
+    draw-refused some e = rw e (read-refused write _ words place out₀ by-tables (layered (parameters .«standard_deviation») t (length out₀)) some)
 
-  abbrev pub begin : (i at : ℕ) (out : List A) → Held i at out → i < length (g .output)
-      → (told : Attempted) → Attempts (g .layers .endpoints) (g .threshold) (g .words) at told → Turn
-  begin i at out held more told attempts = record { i = i; at = at; out = out; held = held; more = more; told = told; attempts = attempts }
+    module _ (none : number ≡ 0) where
+      passed : (place ≤ length words) × (length out₀ ≤ outputLimit) × T (layerTables (parameters .«maximum_magnitude») t)
+      passed =
+          let ok = layerTables (parameters .«maximum_magnitude») t in
+          let all = number-passed (length words) place (length out₀) (refuse (not ok) invalidLayerTables) by-tables none in
+          (all .0, all .1, subst T (sym (not-false ok (not-refused (not ok) 12 (all .2)))) tt)
 
-  -- what an attempt asks for
-  pub asked : (i at : ℕ) (out : List A) → Held i at out → T (layerSizes (g .layers .endpoints)) × (at ≤ length (g .words))
-  asked i at out held = (sizes (g .most) (g .layers) (g .good), held .within)
+      pub heights-there : 0 < length heights
+      heights-there = first-there (parameters .«maximum_magnitude») t (passed .2)
 
-  -- how its trial came to pass or not: inside the layer above it passes, at the edge it is judged
-  abbrev edgeJudges : Trial → Bool → Type 0
-  edgeJudges tried r =
-      judgeEdge (g .deviation) (g .layers) (tried .layer) (tried .magnitude) (drop (tried .place) (g .words))
-      ≡ got r (drop (tried .place + edgeWords (g .threshold) (tried .magnitude)) (g .words))
+      pub turning-none : {put : ℤ → A} {zero : Threshold} → ((cs : List ℤ) → write cs ≡ map put cs) → zero ≡ zeroOver (getD heights 0 nan)
+          → Turning put zero 0 place out₀
+      turning-none {put} each e = record {
+        each = each;
+        good = passed .2;
+        threshold = zero-made (parameters .«maximum_magnitude») t (passed .2) e;
+        limited = passed .1;
+        draws = read-passed write _ words place out₀ by-tables (layered (parameters .«standard_deviation») t (length out₀)) none;
+        filled = filled-none put one words place out₀ (passed .0);
+      }
 
-  abbrev Came : Trial → Bool → Bool → Type 0
-  Came tried inside passed = ((inside ≡ true) × (passed ≡ true)) ⊎ ((inside ≡ false) × (r : Bool) × edgeJudges tried r × (passed ≡ r))
+  module _ {put : ℤ → A} {zero : Threshold} {i at : ℕ} {out : List A} (l : Turning put zero i at out) where
+    abbrev deviation : Float
+    deviation = parameters .«standard_deviation»
 
-module _ {A : Type 0} {g : Given A} (t : Turn g) where
-  -- it passes some words, and its trial is stored, and counted where it passes
-  abbrev pub Turned : Bool → ℕ → A → Type 0
-  Turned passed after a = (t .at < after) × Held g (t .i + boolByte passed) after (set (t .out) (t .i) a)
+    abbrev most : ℕ
+    most = parameters .«maximum_magnitude»
 
-  lacking : Lacks (g .layers .endpoints) (g .threshold) (g .words) (t .at) → one g (drop (t .at) (g .words)) ≡ short
-  lacking (unproposed p) = none-proposed (g .deviation) (g .layers) (drop (t .at) (g .words)) (sym (p .reads))
-  lacking (unjudged tried p e h) =
-      none-judged (g .deviation) (g .layers) (drop (t .at) (g .words)) _ _ (sym (p .reads))
-      (judge-sides (g .deviation) (g .most) (g .layers) (g .good) (tried .layer) (tried .magnitude) (p .sound .0) (drop (tried .place) (g .words))
-      ∙ rw e (edge-lacks (g .deviation) (g .layers) (tried .layer) (tried .magnitude) (g .threshold) (g .zero) (g .words) (tried .place) (p .sound .2) h))
+    -- what an attempt asks for
+    pub turn-sizes : T (layerSizes endpoints)
+    turn-sizes = sizes most t (l .good)
 
-  -- one that lacks a word leaves the whole short
-  pub cut : t .told ≡ Short → (cleared : List A) → cleared ≡ replicate (length (t .out)) (g .put (pos 0))
-      → record { number = 23; place = g .place; output = cleared } ≡ settles g
-  cut e cleared z =
-      settled-short (g .write) (length (g .words)) (g .place) (length (g .output)) cleared _
-      (map-read-same (g .write) (map (g .put)) (g .each) _
-      ∙ filled-short (g .put) (one g) (g .words) (g .place) (g .output) (t .i) (t .at) (t .out) (t .more) (t .held) (lacking (rw e at (t .attempts))))
-      (z ∙ ap (λ (n : ℕ). replicate n (g .put (pos 0))) (t .held .sized)
-      ∙ sym (g .each (replicate (length (g .output)) (pos 0)) ∙ map-replicate (g .put) (length (g .output)) (pos 0)))
+    pub turn-within : at ≤ length words
+    turn-within = l .filled .within
 
-  module _ {tried : Trial} {inside : Bool} {after : ℕ} (begun : t .told ≡ Got tried inside after) where
-    ready : Ready (g .layers .endpoints) (g .threshold) (g .words) (t .at) tried inside after
-    ready = rw begun at (t .attempts)
+    -- the loop ends where the output is full
+    pub turn-full : {answer : Answer} → length out₀ ≤ i → answer ≡ success at → outcome answer out ≡ draw
+    turn-full h e =
+        rw e
+        (settled-got write (length words) place (length out₀) out _ (drop at words) (place-of words at turn-within)
+        (map-read-same write (map put) (l .each) _ ∙ filled-all put one words place out₀ i at out h (l .filled)))
+        ∙ l .draws
 
-    -- what the judging at the edge asks for
-    pub edge : inside ≡ false
-        → OnTables (g .layers) (tried .layer) (tried .magnitude)
-        × ((g .threshold ≡ zeroThreshold (g .layers)) × (tried .place + edgeWords (g .threshold) (tried .magnitude) ≤ length (g .words)))
-    edge e = (
-      on-tables (g .deviation) (g .most) (g .layers) (g .good) (tried .layer) (tried .magnitude) (ready .reads .sound .0),
-      (g .zero, omega (arith, ready .within, rw e at (ready .next))),
-    )
+    -- a turn: an attempt at a place of the output that is not filled yet
+    module _ (more : i < length out₀) where
+      pub turn-index : i < length out
+      turn-index = omega (arith, l .filled .sized)
 
-    judged : (passed : Bool) → Came g tried inside passed
-        → judge (g .deviation) (g .layers) (tried .layer) (tried .magnitude) (drop (tried .place) (g .words)) ≡ got passed (drop after (g .words))
-    judged passed came =
-        judge-sides (g .deviation) (g .most) (g .layers) (g .good) (tried .layer) (tried .magnitude) (ready .reads .sound .0) (drop (tried .place) (g .words))
-        ∙ rw (← ready .side, ready .next) (by-side came)
-      where
-        by-side : Came g tried inside passed
-            → cond inside (got true (drop (tried .place) (g .words)))
-            (judgeEdge (g .deviation) (g .layers) (tried .layer) (tried .magnitude) (drop (tried .place) (g .words)))
-            ≡ got passed (drop (tried .place + cond inside 0 (edgeWords (g .threshold) (tried .magnitude))) (g .words))
-        by-side (inl (e, p)) = rw (e, p, add-zero (tried .place))
-        by-side (inr (e, r, j, p)) = rw (e, p, j)
+      -- where it lies in bytes, and the count after it
+      pub turn-bytes : Fits w64 (i * 8)
+      turn-bytes = record { fits = omega (arith, l .limited) }
 
-    pub turned : (passed : Bool) → Came g tried inside passed → (a : A) → a ≡ g .put (withSign (tried .positive) (tried .magnitude)) → Turned passed after a
-    turned passed came a s = (
-      omega (arith, ready .reads .sound .1, ready .next),
-      filled-turn (g .put) (one g) (g .words) (g .place) (g .output) (t .i) (t .at) after (t .out) a (withSign (tried .positive) (tried .magnitude)) passed
-          (t .more) (t .held)
-          (one-judged (g .deviation) (g .layers) (drop (t .at) (g .words)) _ _ (sym (ready .reads .reads)) passed (drop after (g .words)) (judged passed came))
-          (ready .within) s,
-    )
+      pub turn-count : (passed : Bool) → Fits w64 (i + boolByte passed)
+      turn-count true = record { fits = omega (arith, l .limited) }
+      turn-count false = record { fits = omega (arith, l .limited) }
+
+      module _ (told : Attempted) (attempts : Attempts endpoints (thresholdValue zero) words at told) where
+        lacking : Lacks endpoints (thresholdValue zero) words at → one (drop at words) ≡ short
+        lacking (unproposed p) = none-proposed deviation t (drop at words) (sym (p .reads))
+        lacking (unjudged tried p e h) =
+            none-judged deviation t (drop at words) _ _ (sym (p .reads))
+            (judge-sides deviation most t (l .good) (tried .layer) (tried .magnitude) (p .sound .0) (drop (tried .place) words)
+            ∙ rw e (edge-lacks deviation t (tried .layer) (tried .magnitude) (thresholdValue zero) (l .threshold) words (tried .place) (p .sound .2) h))
+
+        -- one that lacks a word leaves the whole short
+        pub turn-short : {answer : Answer} {cleared : List A} → told ≡ Short → answer ≡ refusal outOfWords place
+            → cleared ≡ replicate (length out) (put (pos 0)) → outcome answer cleared ≡ draw
+        turn-short {answer} {cleared} e a c =
+            rw a
+            (settled-short write (length words) place (length out₀) cleared _
+            (map-read-same write (map put) (l .each) _ ∙ filled-short put one words place out₀ i at out more (l .filled) (lacking (rw e at attempts)))
+            (c ∙ ap (λ (n : ℕ). replicate n (put (pos 0))) (l .filled .sized)
+            ∙ sym (l .each (replicate (length out₀) (pos 0)) ∙ map-replicate put (length out₀) (pos 0))))
+            ∙ l .draws
+
+        module _ {tried : Trial} {inside : Bool} {after : ℕ} (begun : told ≡ Got tried inside after) where
+          ready : Ready endpoints (thresholdValue zero) words at tried inside after
+          ready = rw begun at attempts
+
+          -- what the judging at the edge asks for
+          pub edge-on : OnTables t (tried .layer) (tried .magnitude)
+          edge-on = on-tables deviation most t (l .good) (tried .layer) (tried .magnitude) (ready .reads .sound .0)
+
+          pub edge-there : inside ≡ false → tried .place + edgeWords (thresholdValue zero) (tried .magnitude) ≤ length words
+          edge-there e = omega (arith, ready .within, rw e at (ready .next))
+
+          -- each turn takes a word
+          pub turn-less : length words - after < length words - at
+          turn-less = omega (arith, ready .reads .sound .1, ready .next, ready .within)
+
+          -- how its trial came to pass or not: inside the layer above it passes, at the edge it is judged
+          abbrev edgeJudges : Bool → Type 0
+          edgeJudges r =
+              judgeEdge deviation t (tried .layer) (tried .magnitude) (drop (tried .place) words)
+              ≡ got r (drop (tried .place + edgeWords (thresholdValue zero) (tried .magnitude)) words)
+
+          abbrev Came : Bool → Type 0
+          Came passed = ((inside ≡ true) × (passed ≡ true)) ⊎ ((inside ≡ false) × (r : Bool) × edgeJudges r × (passed ≡ r))
+
+          judged-so : (passed : Bool) → Came passed
+              → judge deviation t (tried .layer) (tried .magnitude) (drop (tried .place) words) ≡ got passed (drop after words)
+          judged-so passed came =
+              judge-sides deviation most t (l .good) (tried .layer) (tried .magnitude) (ready .reads .sound .0) (drop (tried .place) words)
+              ∙ rw (← ready .side, ready .next) (by-side came)
+            where
+              by-side : Came passed
+                  → cond inside (got true (drop (tried .place) words)) (judgeEdge deviation t (tried .layer) (tried .magnitude) (drop (tried .place) words))
+                  ≡ got passed (drop (tried .place + cond inside 0 (edgeWords (thresholdValue zero) (tried .magnitude))) words)
+              by-side (inl (e, p)) = rw (e, p, add-zero (tried .place))
+              by-side (inr (e, r, j, p)) = rw (e, p, j)
+
+          -- the trial is stored, and counted where it passes
+          pub turn-next : (passed : Bool) → Came passed → {a : A} → a ≡ put (withSign (tried .positive) (tried .magnitude))
+              → Turning put zero (i + boolByte passed) after (set out i a)
+          turn-next passed came {a} s = record {
+            each = l .each;
+            good = l .good;
+            threshold = l .threshold;
+            limited = l .limited;
+            draws = l .draws;
+            filled = filled-turn put one words place out₀ i at after out a (withSign (tried .positive) (tried .magnitude)) passed more (l .filled)
+                (one-judged deviation t (drop at words) _ _ (sym (ready .reads .reads)) passed (drop after words) (judged-so passed came)) (ready .within) s;
+          }

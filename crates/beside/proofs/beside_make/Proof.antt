@@ -5,4 +5,4 @@ use Rattle.beside.proofs.beside_make.Tie as tie
 
 pub beside-make-spec : {M : Type 1} → statement M
 beside-make-spec =
-    tie.close (tie.spec (λ c κs. search needs) (λ c κs. search needs) (λ c. rw (c .before .by-kind .ensures) at (c .making-number .ensures)))
+    tie.close (tie.spec (λ c κs. search needs) (λ c κs. search needs) (λ c. rw (c .prepare .ensures, c .before .by-kind .ensures)))

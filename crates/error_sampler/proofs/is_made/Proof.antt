@@ -1,6 +1,6 @@
 -- `is_made` prepares the distribution again and compares the methods.
 use Rattle.draw_laws.proofs.Making.{good-test}
-use Rattle.error_method.specs.declared.ErrorMethod.the-variants.{Empty}
+use Rattle.methods.specs.declared.SamplingMethod.the-variants.{Empty}
 use Rattle.error_sampler.proofs.Made.{makes}
 use borrow.Author.Needs.{needs}
 use Rattle.error_sampler.proofs.is_made.Statement.{statement}

@@ -1,6 +1,6 @@
 -- `is_made` prepares the distribution again and compares the methods.
 use Rattle.draw_laws.proofs.Making.{good-test}
-use Rattle.secret_key_method.specs.declared.SecretKeyMethod.the-variants.{Empty}
+use Rattle.methods.specs.declared.SamplingMethod.the-variants.{Empty}
 use Rattle.secret_key_sampler.proofs.Made.{makes}
 use borrow.Author.Needs.{needs}
 use Rattle.secret_key_sampler.proofs.is_made.Statement.{statement}

@@ -4,6 +4,7 @@ use mathlib.Core.Bool.{true}
 use borrow.Author.Needs.{needs}
 use Rattle.distr.specs.Distribution.{Distr}
 use Rattle.distr.specs.Draw.{signedDraw, noTables, signedAtOnce}
+use Rattle.any_sampler.proofs.Drawing.{any-signed}
 use Rattle.sheet_request.specs.Request.{requestSigned}
 use Rattle.sheet_request.proofs.Requests.{asked-draw}
 use Rattle.sheet_request.proofs.draw_signed.Statement.{statement}
@@ -12,14 +13,16 @@ use Rattle.sheet_request.proofs.draw_signed.Tie as tie
 returns : tie.Need-returns
 unfolding requestSigned signedAtOnce
 returns c =
-    let asked = c .before .before .before .before .before .before .before in
+    let drawn = c .before in
+    let made = drawn .before .before .before .before .before .before in
+    let asked = made .before in
     let a = asked .before .before .args in
-    c .before .draw-signed .ensures
+    any-signed noTables (a .words .now) 0 (asked .select .result) (made .prepare .ensures) (a .output .now) (drawn .sample-signed-to .ensures)
     ∙ asked-draw (λ (d : Distr). signedDraw true d noTables (a .words .now) 0 (a .output .now)) (a .output .now) (a .kind) (a .a) (a .b)
     (asked .select .ensures)
 
 pub draw-signed-spec : {M : Type 1} → statement M
 draw-signed-spec =
     tie.close
-    (tie.spec (λ c κs. search needs) (λ c. search needs) (λ c. search needs) (λ c. search needs) (λ c. search needs) (λ c κs. search needs)
+    (tie.spec (λ c κs. search needs) (λ c κs. search needs) (λ c. search needs) (λ c. search needs) (λ c. search needs) (λ c. search needs) (λ c κs. search needs)
     (λ c. search needs) returns)

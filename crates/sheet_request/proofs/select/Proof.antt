@@ -1,7 +1,7 @@
 -- `select` goes by the kind as the definition does.
 use native.Mathlib.Omega.{arith}
 use borrow.Author.Tests.{le-leb, lt-leb}
-use Rattle.any_sampler.proofs.Selecting.{past-kinds}
+use Rattle.draw_laws.proofs.Selecting.{past-kinds}
 use Rattle.sheet_request.specs.Request.{knownKind, kindDistr}
 use Rattle.sheet_request.proofs.select.Statement.{statement}
 use Rattle.sheet_request.proofs.select.Tie as tie

@@ -24,10 +24,10 @@ judged c t e =
     (chance-told (length (a .words .now)) (a .threshold .below) (drop (a .place) (a .words .now)) t (omega arith) (sym e ∙ c .next-u64 .ensures))
 
 returns-2 : tie.Need-returns-2
-returns-2 c = rw (lt-ltb _ _ (c .if2 .taken)) at (judged (c .before .before .before .before) _ (c .before .before .value .given .1))
+returns-2 c = let took = c .before .before .before .before in rw (lt-ltb _ _ (c .if2 .taken)) at (judged took _ (c .before .before .value .given .1))
 
 returns-3 : tie.Need-returns-3
-returns-3 c = rw (le-ltb _ _ (c .if2 .left)) at (judged (c .before .before .before .before) _ (c .before .before .value .given .1))
+returns-3 c = let took = c .before .before .before .before in rw (le-ltb _ _ (c .if2 .left)) at (judged took _ (c .before .before .value .given .1))
 
 returns-4 : tie.Need-returns-4
 returns-4 c = judged (c .before .before) _ (c .enum-told .given .1)

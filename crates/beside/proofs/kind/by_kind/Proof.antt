@@ -1,7 +1,7 @@
 -- `by_kind` gives what the definition names.
 use native.Mathlib.Omega.{arith}
 use borrow.Author.Tests.{le-leb, lt-leb}
-use Rattle.any_sampler.proofs.Selecting.{past-kinds}
+use Rattle.draw_laws.proofs.Selecting.{past-kinds}
 use Rattle.beside.proofs.Naming.{past-the-last}
 use Rattle.beside.proofs.kind.by_kind.Statement.{statement}
 use Rattle.beside.proofs.kind.by_kind.Tie as tie

@@ -1,19 +1,15 @@
--- `below::fill` goes by the last bit of the end; an even end is twice its half.
-use mathlib.Core.Path.{_≡_}
-use Prim.Native.Nat.{ℕ, _*_, _/_, _%_}
-use native.Mathlib.Omega.{arith}
+-- `below::fill` goes by the last bit of the end.
 use borrow.Author.Needs.{needs}
+use Rattle.binary.proofs.Halves.{even-end, odd-end}
 use Rattle.binary_i64.proofs.below.fill.Statement.{statement}
 use Rattle.binary_i64.proofs.below.fill.Tie as tie
 
--- an even number
-even : (n : ℕ) → n % 2 ≡ 0 → n / 2 * 2 ≡ n
-even n e = omega arith
-
 returns : tie.Need-returns
-returns c = rw (even _ (c .before .before .before .if1 .taken)) at (c .before .fill-even .ensures)
+returns c = let filled = c .before in rw (even-end _ (filled .before .before .if1 .taken)) at (filled .fill-by .ensures)
+
+returns-2 : tie.Need-returns-2
+returns-2 c = let filled = c .before in rw (odd-end _ (filled .before .before .if1 .left)) at (filled .fill-by2 .ensures)
 
 pub fill-spec : {M : Type 1} → statement M
 fill-spec =
-    tie.close
-    (tie.spec (λ c κs. search needs) (λ c κs. search needs) (λ c. search needs) returns (λ c. search needs) (λ c. search needs))
+    tie.close (tie.spec (λ c κs. search needs) (λ c κs. search needs) (λ c. search needs) returns (λ c. search needs) returns-2)

@@ -4,16 +4,16 @@ use mathlib.Core.Path.{sym, _∙_}
 use Prim.Native.Nat.{_-_}
 use native.Mathlib.Omega.{arith}
 use borrow.Author.Needs.{needs}
-use Rattle.block_binary.proofs.Blocks.{Turn, signed, turn-start, turn-room, turn-some, turn-more, turn-short, turn-end}
+use Rattle.block_binary.proofs.Blocks.{Turn, signed, turn-start, turn-room, turn-some, turn-more, turn-short, turn-end, small-none}
 use Rattle.block_binary_i64.proofs.blocks.draw_blocks.Statement.{statement}
 use Rattle.block_binary_i64.proofs.blocks.draw_blocks.Tie as tie
 
 abbrev Inv-loop : tie.InvT-loop
-Inv-loop output₀ block-size choices words place n start₀ at₀ output start at =
+Inv-loop output₀ block-size choices words place n nothing start₀ at₀ output start at =
     Turn (λ cs. cs) words block-size choices n place start at output
 
 abbrev μ-loop : tie.MeasureT-loop
-μ-loop output₀ block-size choices words place n start₀ at₀ output start at = n - start
+μ-loop output₀ block-size choices words place n nothing start₀ at₀ output start at = n - start
 
 loop-holds : tie.Need-loop-holds Inv-loop μ-loop
 loop-holds c = turn-start (λ cs. cs) _ _ _ _ _ _ (c .before .pre .1) (omega arith) (c .before .pre .2)
@@ -33,7 +33,8 @@ part-fill-block-end c =
 fill-block-requires : tie.Need-fill-block-requires Inv-loop μ-loop
 fill-block-requires c κs =
     let test = c .before .before .before .before .before in
-    turn-some signed (test .before .loop .inv) (test .before .before .before .pre .0) (test .loop-test .taken)
+    let asked = test .before .before .before .pre in
+    (turn-some signed (test .before .loop .inv) (asked .0) (test .loop-test .taken), small-none _ (asked .3))
 
 loop-less : tie.Need-loop-less Inv-loop μ-loop
 loop-less c =

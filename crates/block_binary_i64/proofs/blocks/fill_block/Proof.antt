@@ -13,7 +13,7 @@ use Rattle.block_binary_i64.proofs.blocks.fill_block.Tie as tie
 
 -- where the one or the zero goes there is room
 room : (c : tie.Start) → let a = c .args in a .position * boolByte (ltb (a .position) (length (a .block .now))) < length (a .block .now)
-room c = position-room (length (c .args .block .now)) (c .args .position) (c .pre)
+room c = position-room (length (c .args .block .now)) (c .args .position) (c .pre .0)
 
 cast-block : tie.Need-cast-block
 cast-block c = let a = c .before .before .before .args in byte-fits (ltb (a .position) (length (a .block .now)))
@@ -23,8 +23,8 @@ returns c =
     let s = c .before .before .before in
     let n = length (s .args .block .now) in
     let inside = boolByte (ltb (s .args .position) n) in
-    ap (λ l. set l (s .args .position * inside) (toZ w64 inside)) (c .before .clear .ensures)
-    ∙ position-put (toZ w64) n (s .args .position) (s .pre)
+    ap (λ l. set l (s .args .position * inside) (toZ w64 inside)) (c .before .blank .ensures)
+    ∙ position-put (toZ w64) n (s .args .position) (s .pre .0)
 
 pub fill-block-spec : {M : Type 1} → statement M
 fill-block-spec =

@@ -19,7 +19,7 @@ draw-blocks-requires c κs =
     let good =
     ready (λ cs. cs) (a .words .now) (a .place) (a .block-size) (a .occupancy) (a .output .now) (told .before .block-number .ensures)
     (told .draw-number .ensures) (c .before .before .if1 .left) in
-    (good .some, good .whole, good .within)
+    (good .some, good .whole, good .within, good .small)
 
 returns-2 : tie.Need-returns-2
 returns-2 c =

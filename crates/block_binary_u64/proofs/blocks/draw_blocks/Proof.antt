@@ -6,16 +6,16 @@ use native.Mathlib.Omega.{arith}
 use borrow.Author.Needs.{needs}
 use Rattle.output_u64.specs.declared.Encoding.{Encoding}
 use Rattle.output_u64.specs.Out.{heldOne, held}
-use Rattle.block_binary.proofs.Blocks.{Turn, mapped, turn-start, turn-room, turn-some, turn-more, turn-short, turn-end}
+use Rattle.block_binary.proofs.Blocks.{Turn, mapped, turn-start, turn-room, turn-some, turn-more, turn-short, turn-end, small-none}
 use Rattle.block_binary_u64.proofs.blocks.draw_blocks.Statement.{statement}
 use Rattle.block_binary_u64.proofs.blocks.draw_blocks.Tie as tie
 
 abbrev Inv-loop : tie.InvT-loop
-Inv-loop output₀ block-size choices words place n start₀ at₀ output start at =
+Inv-loop output₀ block-size choices words place n nothing start₀ at₀ output start at =
     (encoding : Encoding) → Turn (held encoding) words block-size choices n place start at output
 
 abbrev μ-loop : tie.MeasureT-loop
-μ-loop output₀ block-size choices words place n start₀ at₀ output start at = n - start
+μ-loop output₀ block-size choices words place n nothing start₀ at₀ output start at = n - start
 
 -- any encoding will do for what does not depend on it
 any : Encoding
@@ -39,7 +39,8 @@ part-fill-block-end c =
 fill-block-requires : tie.Need-fill-block-requires Inv-loop μ-loop
 fill-block-requires c κs =
     let test = c .before .before .before .before .before in
-    turn-some (mapped (heldOne any)) (test .before .loop .inv any) (test .before .before .before .before .pre .0) (test .loop-test .taken)
+    let asked = test .before .before .before .before .pre in
+    (turn-some (mapped (heldOne any)) (test .before .loop .inv any) (asked .0) (test .loop-test .taken), small-none _ (asked .3))
 
 loop-less : tie.Need-loop-less Inv-loop μ-loop
 loop-less c =

@@ -6,17 +6,11 @@ use Rattle.centered_binomial.proofs.Deviations.{nearest, table-value, n
 use Rattle.centered_binomial.proofs.deviation.standard_deviation.Statement.{statement}
 use Rattle.centered_binomial.proofs.deviation.standard_deviation.Tie as tie
 
-mul-result : tie.Need-mul-result
-mul-result c = search needs
-
-array-read-result : tie.Need-array-read-result
-array-read-result c = search needs
-
 returns : tie.Need-returns
 unfolding ofBits round root
 returns c =
-    let eta = c .before .args .eta in
-    let value = table-value eta (c .if1 .taken) in
+    let eta = c .before .before .args .eta in
+    let value = table-value eta (c .before .if1 .taken) in
     (value, λ e. rw value (nearest eta e))
 
 returns-2 : tie.Need-returns-2
@@ -26,4 +20,5 @@ returns-2 c =
     (value, λ e. rw value (nearest (c .before .args .eta) e))
 
 pub standard-deviation-spec : {M : Type 1} → statement M
-standard-deviation-spec = tie.close (tie.spec mul-result array-read-result returns returns-2)
+standard-deviation-spec =
+    tie.close (tie.spec (λ c. search needs) (λ c. search needs) (λ c. search needs) (λ c. search needs) returns returns-2)

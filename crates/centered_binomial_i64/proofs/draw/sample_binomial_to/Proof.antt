@@ -1,32 +1,19 @@
 -- `draw::sample_binomial_to` is the rule's draw: the parameters and the answer, then the loop that writes or the one that clears.
-use mathlib.Core.Path.{_≡_, refl, sym, _∙_}
+use mathlib.Core.Path.{_≡_, refl, sym}
 use mathlib.Core.Bool.{true}
 use lib.Dec.{lit<}
 use lib.IntN.{pos}
 use borrow.Author.Needs.{needs}
-use borrow.Author.Tests.{not-true, not-false}
 use Rattle.distr.specs.CenteredBinomial.{binomialValue}
 use Rattle.distr.proofs.Writing.{map-id}
-use Rattle.numbers.proofs.WideNumbers.{answer-enough}
 use Rattle.numbers.proofs.WideDraws.{draw-cleared, draw-refused, draw-read}
 use Rattle.centered_binomial.specs.Binomial.{isMadeBinomial}
+use Rattle.centered_binomial.proofs.Drawing.{never-made, is-made, fill-ready}
 use Rattle.centered_binomial_i64.proofs.draw.sample_binomial_to.Statement.{statement}
 use Rattle.centered_binomial_i64.proofs.draw.sample_binomial_to.Tie as tie
 
-returns : tie.Need-returns
-returns c =
-    let judged = c .before .before in
-    rw (c .refused .ensures, sym (judged .is-made .ensures) ∙ not-true (judged .is-made .result) (c .before .if1 .taken))
-
--- past the first test the parameters are those that making gives
 made : (c : tie.Else1) → isMadeBinomial (c .before .before .before .args .parameters) ≡ true
-made c = sym (c .before .is-made .ensures) ∙ not-false (c .before .is-made .result) (c .if1 .left)
-
-fill-requires : tie.Need-fill-requires
-fill-requires c κs = record {
-  made = made (c .before .before .before .before);
-  enough = answer-enough _ _ _ _ (c .before .before .before .answer-of .ensures) (c .before .if2 .taken);
-}
+made c = search is-made
 
 returns-2 : tie.Need-returns-2
 returns-2 c =
@@ -57,5 +44,5 @@ returns-4 c =
 pub sample-binomial-to-spec : {M : Type 1} → statement M
 sample-binomial-to-spec =
     tie.close
-    (tie.spec (λ c κs. search needs) (λ c κs. tt) returns (λ c κs. search needs) fill-requires (λ c. search needs) returns-2 (λ c κs. search needs)
-    (λ c. search needs) returns-3 returns-4)
+    (tie.spec (λ c κs. search needs) (λ c κs. tt) (λ c. search never-made) (λ c κs. search needs) (λ c κs. search fill-ready) (λ c. search needs)
+    returns-2 (λ c κs. search needs) (λ c. search needs) returns-3 returns-4)

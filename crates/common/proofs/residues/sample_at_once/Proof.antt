@@ -1,32 +1,23 @@
--- `residues::sample_at_once` answers the number of making, or draws with the sampler that was made.
+-- `residues::sample_at_once` answers the number of making, or draws by the method that is prepared.
 use mathlib.Core.Path.{_∙_}
-use mathlib.Core.Bool.{Bool}
+use native.Mathlib.Omega.{arith}
 use borrow.Author.Needs.{needs}
-use Rattle.distr.specs.Distribution.{Distr}
-use Rattle.distr.specs.Draw.{encodedDraw, noTables, encodedAtOnce}
-use Rattle.secret_key_sampler.proofs.Calls.{made-refused, made-drawn}
+use Rattle.distr.specs.Distribution.{secret}
+use Rattle.distr.specs.Draw.{noTables, encodedAtOnce}
+use Rattle.method_draws.proofs.Drawing.{secret-preparing}
+use Rattle.prepared_draws.proofs.Calls.{once-encoded}
 use Rattle.common.proofs.residues.sample_at_once.Statement.{statement}
 use Rattle.common.proofs.residues.sample_at_once.Tie as tie
 
 returns : tie.Need-returns
 unfolding encodedAtOnce
 returns c =
-    let made = c .before .before in
+    let drawn = c .before .before in
+    let made = drawn .before .before .before .before .before .before in
     let a = made .before .before .before .args in
-    rw (c .refused .ensures) (made-refused (a .distr) (made .try-new .result) (made .try-new .ensures) (a .place) _ _ (c .before .if1 .taken))
-
-returns-2 : tie.Need-returns-2
-unfolding encodedAtOnce
-returns-2 c =
-    let went-on = c .before .before .before .before .before .before .before .before .before in
-    let made = went-on .before .try-new in
-    let a = went-on .before .before .before .before .args in
-    c .before .before .sample-encoded-to .ensures
-    ∙ made-drawn (a .distr) (made .result) (made .ensures) (a .place) _
-    (λ (b : Bool) (d : Distr). encodedDraw b d noTables (a .modulus) (a .words .now) (a .place) (a .output .now)) (went-on .if1 .left)
+    once-encoded (secret (a .distr)) noTables (a .words .now) (a .place) (made .prepare .ensures ∙ secret-preparing (a .distr)) (a .modulus) (a .output .now) (omega arith) (drawn .sample-encoded-to .ensures)
 
 pub sample-at-once-spec : {M : Type 1} → statement M
 sample-at-once-spec =
     tie.close
-    (tie.spec (λ c κs. search needs) (λ c κs. search needs) returns (λ c. search needs) (λ c. search needs) (λ c. search needs) (λ c. search needs)
-    (λ c κs. search needs) (λ c. search needs) returns-2)
+    (tie.spec (λ c κs. search needs) (λ c. search needs) (λ c. search needs) (λ c. search needs) (λ c. search needs) (λ c κs. search needs) (λ c. search needs) returns)

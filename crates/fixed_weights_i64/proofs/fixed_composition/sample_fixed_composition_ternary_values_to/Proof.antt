@@ -1,52 +1,14 @@
 -- `fixed_composition::sample_fixed_composition_ternary_values_to` refuses by its numbers, or draws by its plan.
-use mathlib.Core.Path.{refl, ap}
-use lib.IntN.{ℤ}
-use mir.Syntax.{w64}
-use mir.Val.{toZ, ofZ}
-use Prim.Native.Nat.{_+_}
 use borrow.Author.Needs.{needs}
-use lib.ListN.{length}
-use Rattle.distr.specs.Insertion.{fixedComposition}
-use Rattle.fixed_weights.specs.Plans.{compositionPlan}
-use Rattle.fixed_weights.proofs.PlanRules.{composition-planned}
-use Rattle.fixed_weights.proofs.Judging.{Begun, by-plan, by-number}
+use Rattle.fixed_weights.proofs.PlanRules.{composition-planned, composition-ready}
+use Rattle.fixed_weights.proofs.Judging.{plan-ready, plan-there, plan-refused}
 use Rattle.fixed_weights.proofs.Planning.{plan-draws, holds-signed}
 use Rattle.fixed_weights_i64.proofs.fixed_composition.sample_fixed_composition_ternary_values_to.Statement.{statement}
 use Rattle.fixed_weights_i64.proofs.fixed_composition.sample_fixed_composition_ternary_values_to.Tie as tie
 
--- the function's entry, from where it has planned
-abbrev entry : tie.After-composition-plan → tie.Start
-entry planned = planned .before .before
-
--- the plan, where no number refuses the draw
-begun : (d : tie.After-known-told)
-    → let a = entry (d .before .before .before) .args in
-    Begun (fixedComposition (a .minus-one-weight) (a .one-weight) (length (a .output .now))) (length (a .words .now)) (a .place) (length (a .output .now)) (a .minus-one-weight + a .one-weight) (d .before .plan .given .0 .0)
-begun d = by-plan _ _ _ _ (composition-planned _ _ _) (d .before .before .before .composition-plan .ensures) (d .before .plan .given .1)
-
-insert-random-values-requires : tie.Need-insert-random-values-requires
-insert-random-values-requires c κs = let g = begun (c .before .before .before) in (g .of-rule .ready, g .there)
-
-returns : tie.Need-returns
-returns c =
-    let inserted = c .before in
-    let told = inserted .before .before .before in
-    let d = told .before in
-    let a = entry (d .before .before .before) .args in
-    let g = begun d in
-    plan-draws (holds-signed (ap (λ (v : ℤ). toZ w64 (ofZ w64 v)) (told .minus-one .ensures))) (a .words .now) (a .place) (a .minus-one-weight + a .one-weight) (a .output .now)
-    refl (g .none) (g .of-rule) (inserted .insert-random-values .ensures)
-
-returns-2 : tie.Need-returns-2
-returns-2 c =
-    let planned = c .before .before .before .before in
-    let a = entry planned .args in
-    rw (c .refused .ensures)
-    (by-number _ _ (a .words .now) (a .place) (a .minus-one-weight + a .one-weight) (a .output .now)
-    (compositionPlan (a .minus-one-weight) (a .one-weight) (length (a .output .now))) (planned .composition-plan .ensures) (c .before .before .number .given .1))
-
 pub sample-fixed-composition-ternary-values-to-spec : {M : Type 1} → statement M
 sample-fixed-composition-ternary-values-to-spec =
     tie.close
-    (tie.spec (λ c κs. search needs) (λ c. search needs) (λ c κs. search needs) insert-random-values-requires (λ c. search needs)
-    (λ c κs. search needs) (λ c. search needs) returns returns-2)
+    (tie.spec (λ c κs. search needs) (λ c. search needs) (λ c κs. search needs) (λ c κs. (search (plan-ready, composition-ready), search plan-there))
+    (λ c. search needs) (λ c κs. search needs) (λ c. search needs) (λ c. search (plan-draws, composition-planned, holds-signed))
+    (λ c. search plan-refused))

@@ -16,9 +16,10 @@ draw-requires c κs = (made-paired (pos 0) (pos 0 ∷ pos 1 ∷ []) (omega arith
 returns : tie.Need-returns
 returns c =
     let called = c .before in
+    let made = called .before .before .before .before in
     rw (called .before .before .before .binary-words .ensures) at
     (called .draw .ensures .draws (λ cs. cs) (λ x. x) pos (λ cs. sym (map-id cs)) refl
-    (made-agrees (pos 0) (pos 0 ∷ pos 1 ∷ []) (omega arith) (called .before .before .before .before .bits .ensures) _ (below-two _ refl refl)))
+    (made-agrees (pos 0) (pos 0 ∷ pos 1 ∷ []) (omega arith) (made .bits .ensures) _ (below-two _ refl refl)))
 
 pub sample-uniform-binary-values-to-spec : {M : Type 1} → statement M
 sample-uniform-binary-values-to-spec =

@@ -17,9 +17,10 @@ returns : tie.Need-returns
 returns c =
     let called = c .before .before in
     let encoding = called .before .before .before .before .before .before .before .args .encoding in
+    let made = called .before .before .before .before in
     rw (called .before .before .before .binary-words .ensures) at
     (called .draw .ensures .draws (held encoding) (heldOne encoding) pos (λ cs. refl) refl
-    (made-agrees 0 (0 ∷ 1 ∷ []) (omega arith) (called .before .before .before .before .bits .ensures) _ (below-two _ refl refl)))
+    (made-agrees 0 (0 ∷ 1 ∷ []) (omega arith) (made .bits .ensures) _ (below-two _ refl refl)))
 
 pub sample-uniform-binary-values-to-spec : {M : Type 1} → statement M
 sample-uniform-binary-values-to-spec =

@@ -10,7 +10,8 @@ use Rattle.packed_u64.proofs.stores.store_trits.Tie as tie
 same-length : tie.Need-same-length
 same-length c =
     let second = c .before .before .before in
-    simp length-set (second .store-pair2 .kept .0 ∙ second .before .before .before .before .store-pair .kept .0)
+    let first = second .before .before .before .before in
+    simp length-set (second .store-pair2 .kept .0 ∙ first .store-pair .kept .0)
 
 returns : tie.Need-returns
 returns c =

@@ -27,7 +27,8 @@ loop-again : tie.Need-loop-again Inv-loop μ-loop
 loop-again c =
     let after = c .before .before in
     let called = after .store-word in
-    trit-whole _ _ _ _ _ _ (omega arith) (omega arith) (called .kept .0) (after .before .before .before .before .before .loop .inv) (called .ensures)
+    let at-loop = after .before .before .before .before .before in
+    trit-whole _ _ _ _ _ _ (omega arith) (omega arith) (called .kept .0) (at-loop .loop .inv) (called .ensures)
 
 same-length-2 : tie.Need-same-length-2 Inv-loop μ-loop
 same-length-2 c = c .before .loop .inv .sized

@@ -1,66 +1,21 @@
--- `SecretKeySampler::sample_encoded_to` judges the sampler, the length and the modulus, and draws residues by its method.
-use mathlib.Core.Path.{sym, _∙_}
-use mathlib.Core.List.{map}
-use Prim.Native.Nat.{_-_}
-use lib.ListN.{length}
-use Rattle.distr.specs.Encoding.{encodeWith}
-use Rattle.draw_laws.proofs.Sampled.{encoded-refused, encoded-asked, encoded-drawn}
+-- `SecretKeySampler::sample_encoded_to` draws residues by the method of the sampler.
 use Rattle.signed_discrete_gaussian.specs.Lent.{lent}
-use Rattle.secret_key_method.specs.Method.{prepared}
-use Rattle.secret_key_draws.specs.Drawing.{methodDraw}
-use Rattle.secret_key_draws.proofs.Drawing.{prepared-draw}
-use Rattle.secret_key_sampler.specs.Sampler.{residueNumbers}
-use Rattle.secret_key_sampler.proofs.Made.{makes}
+use Rattle.prepared_draws.proofs.Calls.{sampler-encoded}
+use Rattle.secret_key_sampler.proofs.Made.{makes, prepares}
 use Rattle.secret_key_sampler.proofs.SamplerFloats.{sampler-fits}
-use Rattle.secret_key_sampler.proofs.Answers.{residues-fit, residues-above, residues-asked}
+use native.Mathlib.Omega.{arith}
 use borrow.Author.Needs.{needs}
 use Rattle.secret_key_sampler.proofs.SecretKeySampler.sample_encoded_to.Statement.{statement}
 use Rattle.secret_key_sampler.proofs.SecretKeySampler.sample_encoded_to.Tie as tie
 
 returns : tie.Need-returns
 returns c =
-    let at = c .before in
-    let a = at .before .before .before .before .before .before .before .before .args in
-    let t = lent (a .bounds .now) (a .endpoints .now) (a .heights .now) (a .curve .now) in
-    rw (c .refused .ensures)
-    (encoded-refused makes (a .self) (at .before .is-made .ensures) t (a .words .now) (a .place) (a .modulus) (a .output .now) (at .if1 .taken))
-
-returns-2 : tie.Need-returns-2
-returns-2 c =
-    let asked = c .before .before in
-    let at = asked .before .before in
-    let start = at .before .before .before .before .before .before .before .before in
+    let drawn = c .before .before in
+    let tried = drawn .before .before in
+    let start = tried .before .before .before .before .before .before .before in
     let a = start .args in
-    let t = lent (a .bounds .now) (a .endpoints .now) (a .heights .now) (a .curve .now) in
-    rw (c .refused2 .ensures)
-    (encoded-asked makes (a .self) (at .before .is-made .ensures) t (a .words .now) (a .place) (a .modulus) (a .output .now)
-    (sampler-fits (a .self) _ (start .good .0)) (at .if1 .left) (λ d m. residueNumbers d m (length (a .output .now)) (a .modulus))
-    (residues-asked t (a .modulus) (a .words .now) (a .place) (a .output .now))
-    (asked .before .residue-number .ensures) (asked .if2 .taken) (c .before .draw-number .ensures))
-
-sub-minus-one : tie.Need-sub-minus-one
-sub-minus-one c =
-    let at = c .before .before in
-    let a = at .before .before .before .before .before .before .before .before .args in
-    residues-above (a .self .distr) (a .self .method) _ _ (sym (c .before .residue-number .ensures) ∙ c .if2 .left)
-
-returns-3 : tie.Need-returns-3
-returns-3 c =
-    let asked = c .before .before .before .before in
-    let at = asked .before .before in
-    let start = at .before .before .before .before .before .before .before .before in
-    let a = start .args in
-    let t = lent (a .bounds .now) (a .endpoints .now) (a .heights .now) (a .curve .now) in
-    let write = map (encodeWith (a .modulus - 1)) in
-    encoded-drawn makes (a .self) (at .before .is-made .ensures) t (a .words .now) (a .place) (a .modulus) (a .output .now)
-    (sampler-fits (a .self) _ (start .good .0)) (at .if1 .left) (λ d m. residueNumbers d m (length (a .output .now)) (a .modulus))
-    (residues-asked t (a .modulus) (a .words .now) (a .place) (a .output .now))
-    (asked .before .residue-number .ensures) (asked .if2 .left) (residues-fit (a .self .distr) (prepared (a .self .distr)) (length (a .output .now)) (a .modulus))
-    (λ m. methodDraw write m t (a .words .now) (a .place) (a .output .now))
-    (λ d _. prepared-draw write t (a .words .now) (a .place) (a .output .now) d) (c .before .before .sample-to-with .ensures)
+    sampler-encoded makes prepares (a .self) (sampler-fits (a .self) _ (start .good .0)) (lent (a .bounds .now) (a .endpoints .now) (a .heights .now) (a .curve .now))
+    (a .words .now) (a .place) (tried .prepared .ensures) (a .modulus) (a .output .now) (omega arith) (drawn .sample-encoded-to .ensures)
 
 pub sample-encoded-to-spec : {M : Type 1} → statement M
-sample-encoded-to-spec =
-    tie.close
-    (tie.spec (λ c κs. search needs) (λ c κs. search needs) returns (λ c κs. search needs) (λ c κs. search needs) (λ c κs. search needs) returns-2
-    sub-minus-one (λ c κs. search needs) (λ c. search needs) returns-3)
+sample-encoded-to-spec = tie.close (tie.spec (λ c κs. search needs) (λ c κs. search needs) (λ c. search needs) returns)

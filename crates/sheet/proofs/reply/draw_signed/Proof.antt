@@ -23,7 +23,8 @@ copy-patterns-requires : tie.Need-copy-patterns-requires
 copy-patterns-requires c κs =
     let drawn = c .before .before in
     let room = drawn .before .before .before .before in
-    omega (arith, room .before .before .before .before .pre .1, drawn .output .given, sized room)
+    let start = room .before .before .before .before in
+    omega (arith, start .pre .1, drawn .output .given, sized room)
 
 returns : tie.Need-returns
 returns c =

@@ -14,8 +14,8 @@ returns-2 c = rw (c .before .ends2 .given .1)
 
 returns-3 : tie.Need-returns-3
 unfolding planOf
-returns-3 c = rw (c .before .before .ends3 .given .1, c .larger .ensures)
+returns-3 c = rw (c .before .ends3 .given .1)
 
 pub plan-of-spec : {M : Type 1} → statement M
 plan-of-spec =
-    tie.close (tie.spec (λ c. search needs) (λ c. search needs) (λ c. search needs) (λ c κs. search needs) returns returns-2 returns-3)
+    tie.close (tie.spec (λ c. search needs) (λ c. search needs) (λ c. search needs) returns returns-2 returns-3)

@@ -1,10 +1,7 @@
 -- `draw::sample_to` draws by the sampler's plan.
-use mathlib.Core.Path.{_≡_, refl, sym, ap, _∙_}
+use mathlib.Core.Path.{refl, sym, ap, _∙_}
 use lib.ListN.{length, replicate}
-use lib.IntN.{pos}
-use mir.Syntax.{w64}
-use mir.Val.{toZ}
-use mir.Facts.{toZ-pos, toZ-ofZ}
+use mir.Facts.{toZ-ofZ}
 use borrow.Author.Needs.{needs, sfits-of}
 use borrow.Author.Tests.{not-true, not-false}
 use Rattle.distr.proofs.Writing.{map-id}
@@ -37,35 +34,28 @@ returns-3 c =
     (told .answer-of .ensures) (good .if2 .left) (not-true (told .before .plan-of .result .reads) (constant .if3 .taken))
     (c .before .fill .ensures ∙ ap (replicate (length (a .output .now))) (toZ-ofZ (sfits-of (value .encoded .ok)) ∙ value .encoded .ensures))
 
-pick-requires : tie.Need-pick-requires
-pick-requires c κs =
-    let reading = c .before .before .before .before .before in
+fill-requires-2 : tie.Need-fill-requires-2
+fill-requires-2 c κs =
+    let reading = c .before in
     let good = reading .before .before in
     let told = good .before .before .before .before in
     let a = told .before .before .before .args in
     plan-enough (λ cs. cs) (λ x. x) (λ cs. sym (map-id cs)) (a .words .now) (a .place) (a .output .now) (a .ends) (told .before .plan-of .ensures)
     (told .answer-of .ensures) (good .if2 .left) (not-false (told .before .plan-of .result .reads) (reading .if3 .left))
 
--- the plan's two values are held as they are
-plain : (c : tie.After-plan-of) → let p = c .plan-of .result in (toZ w64 (p .between) ≡ pos (p .between)) × (toZ w64 (p .above) ≡ pos (p .above))
-plain c = (toZ-pos w64 (search needs), toZ-pos w64 (search needs))
-
 returns-4 : tie.Need-returns-4
 returns-4 c =
-    let minus = c .before .before .before .before .before .before in
-    let good = minus .before .before .before in
+    let reading = c .before .before .before in
+    let good = reading .before .before in
     let told = good .before .before .before .before in
     let start = told .before .before in
     let a = start .before .args in
     plan-read (λ cs. cs) (λ x. x) (λ cs. sym (map-id cs)) (a .words .now) (a .place) (a .output .now) _ (told .before .plan-of .ensures)
-    (told .answer-of .ensures) (good .if2 .left) (not-false (told .before .plan-of .result .reads) (minus .before .if3 .left))
-    (λ i. start .shared-slice-known .given i .fits) (toZ-ofZ (sfits-of (minus .minus-one .ok)) ∙ minus .minus-one .ensures) (plain (told .before) .0)
-    (plain (told .before) .1)
-    (c .before .pick .ensures)
+    (told .answer-of .ensures) (good .if2 .left) (not-false (told .before .plan-of .result .reads) (reading .if3 .left))
+    (λ i. start .shared-slice-known .given i .fits) (c .before .fill2 .ensures)
 
 pub sample-to-spec : {M : Type 1} → statement M
 sample-to-spec =
     tie.close
     (tie.spec (λ c κs. search needs) (λ c κs. search needs) (λ c κs. search needs) (λ c. search needs) returns returns-2 (λ c κs. search needs)
-    (λ c κs. search needs) (λ c. search needs) returns-3 (λ c κs. search needs) (λ c. search needs) (λ c. search needs) pick-requires
-    (λ c. search needs) returns-4)
+    (λ c κs. search needs) (λ c. search needs) returns-3 fill-requires-2 (λ c. search needs) returns-4)

@@ -38,9 +38,9 @@ returns-3 c =
     (constant .if3 .taken))
     (c .before .before .fill .ensures ∙ ap (replicate (length (a .output .now))) (value .encoded .ensures))
 
-pick-requires : tie.Need-pick-requires
-pick-requires c κs =
-    let reading = c .before .before .before .before .before in
+fill-requires-2 : tie.Need-fill-requires-2
+fill-requires-2 c κs =
+    let reading = c .before in
     let good = reading .before .before in
     let told = good .before .before .before .before in
     let a = told .before .before .before .before .args in
@@ -50,21 +50,17 @@ pick-requires c κs =
 
 returns-4 : tie.Need-returns-4
 returns-4 c =
-    let minus = c .before .before .before .before .before .before .before in
-    let good = minus .before .before .before in
+    let reading = c .before .before .before .before in
+    let good = reading .before .before in
     let told = good .before .before .before .before in
     let start = told .before .before in
     let a = start .before .before .args in
     plan-read (held (a .encoding)) (heldOne (a .encoding)) (λ cs. refl) (a .words .now) (a .place) (a .output .now) _ (told .before .plan-of .ensures)
-    (told .answer-of .ensures)
-    (good .if2 .left) (not-false (told .before .plan-of .result .reads)
-    (minus .before .if3 .left))
-    (λ i. start .shared-slice-known .given i .fits) (minus .minus-one .ensures) refl refl
-    (c .before .before .pick .ensures)
+    (told .answer-of .ensures) (good .if2 .left) (not-false (told .before .plan-of .result .reads) (reading .if3 .left))
+    (λ i. start .shared-slice-known .given i .fits) (c .before .before .fill2 .ensures)
 
 pub sample-to-spec : {M : Type 1} → statement M
 sample-to-spec =
     tie.close
     (tie.spec (λ c κs. search needs) (λ c κs. search needs) (λ c κs. search needs) (λ c. search needs) returns returns-2 (λ c κs. search needs)
-    (λ c κs. search needs) (λ c. search needs) returns-3 (λ c κs. search needs) (λ c. search needs) (λ c. search needs) pick-requires
-    (λ c. search needs) returns-4)
+    (λ c κs. search needs) (λ c. search needs) returns-3 fill-requires-2 (λ c. search needs) returns-4)

@@ -1,2 +1,0 @@
--- The draws of the families that CRT draws serve.
-pub mod Drawing

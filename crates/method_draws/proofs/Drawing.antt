@@ -1,0 +1,113 @@
+-- A method prepared for a distribution draws as the distribution does, however the output holds coefficients.
+use mathlib.Core.Path.{_≡_, refl, ap, _∙_}
+use mathlib.Core.Bool.{true, not}
+use mathlib.Core.List.{List, [], _∷_}
+use Prim.Native.Nat.{ℕ, _+_, _-_, _^_, _<_, _≤_}
+use borrow.Author.Tests.{eq-eqb}
+use lib.ListN.{length}
+use lib.IntN.{ℤ}
+use Rattle.distr.specs.declared.secret_key_distr.SecretKeyDistr.{SecretKeyDistr}
+use Rattle.distr.specs.declared.secret_key_distr.SecretKeyDistr.the-variants as Distr
+use Rattle.distr.specs.declared.error_distribution.ErrorDistribution.{ErrorDistribution}
+use Rattle.distr.specs.declared.error_distribution.ErrorDistribution.the-variants as Error
+use Rattle.distr.specs.Rule.{Rule}
+use Rattle.distr.specs.Thresholds.{threshold, binary}
+use Rattle.distr.specs.declared.gaussian_parameters.GaussianParameters.{GaussianParameters}
+use Rattle.distr.specs.Gaussian.{support, cumulative, cumulativeTable}
+use Rattle.distr.specs.Layered.{layerTables, layered}
+use Rattle.distr.specs.Distribution.{Distr, secret, error, Tables, onDeviation, secretRule, errorRule, rule, coefficients}
+use Rattle.distr.specs.Making.{refuse, errorNumber, makingNumber, largest}
+use Rattle.distr.specs.Numbers.{firstOf, badWeight, badBlocks, lengthNumber, gaussianTable, tableNumber}
+use Rattle.distr.specs.Draw.{Outcome, readDraw, ruleDraw}
+use Rattle.probability.proofs.Made.{flagged-value}
+use Rattle.ternary.proofs.Sampling.{sampler-rule}
+use Rattle.draw_laws.proofs.Joining.{first-alone, first-before}
+use Rattle.draw_laws.proofs.Sampled.{distributionNumber, distributionDraw}
+use Rattle.centered_binomial.specs.Binomial.{isMadeBinomial, parametersOf}
+use Rattle.signed_discrete_gaussian.proofs.Backends.{draw-small, draw-large}
+use Rattle.methods.specs.declared.SamplingMethod.{SamplingMethod}
+use Rattle.methods.specs.declared.SamplingMethod.the-variants.{Gaussian}
+use Rattle.methods.specs.Method.{magnitudeOf, lengthOf}
+use Rattle.secret_key_method.specs.Method.{prepared, preparing as preparingSecret}
+use Rattle.secret_key_method.proofs.Prepared.{prepared-magnitude as secret-magnitude, prepared-length as secret-length}
+use Rattle.error_method.specs.Method.{prepared as preparedError, preparing as preparingError}
+use Rattle.error_method.proofs.Prepared.{prepared-magnitude as error-magnitude, prepared-length as error-length}
+use Rattle.method_draws.specs.Drawing.{preparedMethod, preparing, methodDraw}
+
+-- the parameters that are prepared for an accepted eta pass their family's test
+pub prepared-binomial : (eta : ℕ) → errorNumber (Error.CenteredBinomial eta) ≡ 0 → isMadeBinomial (parametersOf eta) ≡ true
+prepared-binomial eta e = rw (e, eq-eqb (2 ^ eta - 1) (2 ^ eta - 1) refl)
+
+module _ {A : Type 0} (write : List ℤ → List A) (tables : Tables) (words : List ℕ) (place : ℕ) (out : List A) where
+  -- by a number that the distribution's comes to
+  by-number : (d : SecretKeyDistr) (k : ℕ) → distributionNumber (secret d) tables (length out) ≡ k
+      → readDraw write k (coefficients (secret d) (length out) tables) words place out ≡ distributionDraw write (secret d) tables words place out
+  by-number d k e = rw e
+
+  secret-draw : (d : SecretKeyDistr) → methodDraw write (prepared d) tables words place out ≡ distributionDraw write (secret d) tables words place out
+  unfolding methodDraw prepared ruleDraw lengthNumber tableNumber onDeviation coefficients rule secretRule firstOf
+  secret-draw Distr.UniformBinary = refl
+  secret-draw (Distr.Binary p) = ap (λ (t : ℕ). ruleDraw write 0 (binary t (length out)) words place out) (flagged-value (threshold p))
+  secret-draw Distr.SparseTernary = refl
+  secret-draw Distr.UniformTernary = refl
+  secret-draw (Distr.Ternary minus plus) =
+      ap (λ (r : Rule). ruleDraw write 0 r words place out) (sampler-rule (threshold minus) (threshold plus) (length out))
+  secret-draw (Distr.FixedHammingWeightBinary h) =
+      by-number (Distr.FixedHammingWeightBinary h) (badWeight h (length out)) (first-before (badWeight h (length out)) (0 ∷ []) refl)
+  secret-draw (Distr.BlockBinary size occupancy) =
+      by-number (Distr.BlockBinary size occupancy) (badBlocks size (length out)) (first-before (badBlocks size (length out)) (0 ∷ []) refl)
+  secret-draw (Distr.FixedHammingWeightTernary h) =
+      by-number (Distr.FixedHammingWeightTernary h) (badWeight h (length out)) (first-before (badWeight h (length out)) (0 ∷ []) refl)
+  secret-draw (Distr.FixedCompositionTernary minus ones) =
+      by-number (Distr.FixedCompositionTernary minus ones) (badWeight (minus + ones) (length out))
+      (first-before (badWeight (minus + ones) (length out)) (0 ∷ []) refl)
+  secret-draw (Distr.Gaussian deviation) =
+      by-number (Distr.Gaussian deviation) (gaussianTable (support deviation) tables) (first-before (gaussianTable (support deviation) tables) [] refl)
+
+  error-draw : (d : ErrorDistribution) → errorNumber d ≡ 0
+      → methodDraw write (preparedError d) tables words place out ≡ distributionDraw write (error d) tables words place out
+  unfolding methodDraw preparedError ruleDraw lengthNumber tableNumber onDeviation coefficients rule errorRule firstOf
+  error-draw (Error.Gaussian deviation) e = rw (first-alone (gaussianTable (support deviation) tables))
+  error-draw (Error.CenteredBinomial eta) e = rw (prepared-binomial eta e)
+
+  -- a Gaussian's method is drawn by the cumulative table, or by the layers
+  module _ {method : SamplingMethod} {parameters : GaussianParameters} (e : method ≡ Gaussian parameters) {o : Outcome A} where
+    pub by-table : parameters .«maximum_magnitude» ≤ 255
+        → o ≡ ruleDraw write (refuse (not (cumulativeTable (parameters .«maximum_magnitude») (tables .bounds))) 12)
+        (cumulative (parameters .«maximum_magnitude») (tables .bounds) (length out)) words place out
+        → o ≡ methodDraw write method tables words place out
+    unfolding methodDraw
+    by-table h drawn = rw e (draw-small write (parameters .«standard_deviation») (parameters .«maximum_magnitude») tables words place out o h drawn)
+
+    pub by-layers : 255 < parameters .«maximum_magnitude»
+        → o ≡ readDraw write (refuse (not (layerTables (parameters .«maximum_magnitude») (tables .layers))) 13)
+        (λ ws. layered (parameters .«standard_deviation») (tables .layers) (length out) ws) words place out
+        → o ≡ methodDraw write method tables words place out
+    unfolding methodDraw
+    by-layers h drawn = rw e (draw-large write (parameters .«standard_deviation») (parameters .«maximum_magnitude») tables words place out o h drawn)
+
+  pub prepared-draw : (d : Distr) → makingNumber d ≡ 0
+      → methodDraw write (preparedMethod d) tables words place out ≡ distributionDraw write d tables words place out
+  unfolding preparedMethod makingNumber
+  prepared-draw (secret d) z = secret-draw d
+  prepared-draw (error d) z = error-draw d z
+
+-- What a prepared method keeps is its distribution's.
+pub prepared-magnitude : (d : Distr) → magnitudeOf (preparedMethod d) ≡ largest d
+unfolding preparedMethod
+prepared-magnitude (secret d) = secret-magnitude d
+prepared-magnitude (error d) = error-magnitude d
+
+pub prepared-length : (d : Distr) (n : ℕ) → lengthOf (preparedMethod d) n ≡ lengthNumber d n
+unfolding preparedMethod
+prepared-length (secret d) n = secret-length d n
+prepared-length (error d) n = error-length d n
+
+-- What is prepared for either kind is what the definition prepares.
+pub secret-preparing : (d : SecretKeyDistr) → preparingSecret d ≡ preparing (secret d)
+unfolding preparedMethod makingNumber
+secret-preparing d = refl
+
+pub error-preparing : (d : ErrorDistribution) → preparingError d ≡ preparing (error d)
+unfolding preparedMethod makingNumber
+error-preparing d = refl

@@ -1,0 +1,2 @@
+-- The methods that making prepares, and what each draws.
+pub mod Drawing

@@ -1,0 +1,49 @@
+-- `method_draws_i64::sample_to_with` draws as the method says: each arm is the draw of its family.
+use borrow.Author.Needs.{needs}
+use Rattle.method_draws.specs.Drawing.{methodDraw}
+use Rattle.method_draws.proofs.Drawing.{by-table, by-layers}
+use Rattle.method_draws_i64.proofs.sample_to_with.Statement.{statement}
+use Rattle.method_draws_i64.proofs.sample_to_with.Tie as tie
+
+returns-10 : tie.Need-returns-10
+returns-10 c =
+    let drawn = c .before in
+    let at = drawn .before .before in
+    by-table _ _ _ _ _ (at .before .before .before .method7 .given .1) (at .if1 .taken) (drawn .sample-cdt-to .ensures)
+
+returns-11 : tie.Need-returns-11
+returns-11 c =
+    let drawn = c .before in
+    let at = drawn .before .before in
+    by-layers _ _ _ _ _ (at .before .before .before .method7 .given .1) (at .if1 .left) (drawn .sample-ziggurat-to .ensures)
+
+pub sample-to-with-spec : {M : Type 1} → statement M
+sample-to-with-spec =
+    tie.close
+    (tie.spec (λ c. search needs) (λ c κs. search needs) (λ c. search needs) (λ c κs. search needs) (λ c. search needs) (λ c κs. search needs)
+    (λ c. search needs) (λ c κs. search needs) (λ c. search needs) (λ c κs. search needs) (λ c. search needs) (λ c κs. search needs)
+    (λ c. search needs) (λ c κs. search needs) (λ c. search needs) (λ c κs. search needs) (λ c. search needs) (λ c κs. search needs)
+    (λ c. search needs) (λ c κs. search needs) (λ c κs. search needs)
+    (λ c. search needs) (λ c κs. search needs) (λ c. search needs) (λ c κs. search needs)
+    (λ c. search needs)
+    (λ c. let drawn = c .before in unfold methodDraw in rw (drawn .before .before .enum-told .given .1) (drawn .sample-uniform-binary-values-to .ensures))
+    (λ c. search needs)
+    (λ c. let drawn = c .before in unfold methodDraw in rw (drawn .before .before .before .method .given .1) (drawn .fill-binary .ensures))
+    (λ c. search needs)
+    (λ c. let drawn = c .before in unfold methodDraw in rw (drawn .before .before .enum-told2 .given .1) (drawn .sample-sparse-ternary-values-to .ensures))
+    (λ c. search needs)
+    (λ c. let drawn = c .before in unfold methodDraw in rw (drawn .before .before .enum-told3 .given .1) (drawn .sample-uniform-ternary-values-to .ensures))
+    (λ c. search needs)
+    (λ c. let drawn = c .before in unfold methodDraw in rw (drawn .before .before .before .method2 .given .1) (drawn .sample-to .ensures))
+    (λ c. search needs)
+    (λ c. let drawn = c .before in unfold methodDraw in rw (drawn .before .before .before .method3 .given .1) (drawn .sample-fixed-hamming-weight-binary-values-to .ensures))
+    (λ c. search needs)
+    (λ c. let drawn = c .before in unfold methodDraw in rw (drawn .before .before .before .method4 .given .1) (drawn .sample-block-binary-values-to .ensures))
+    (λ c. search needs)
+    (λ c. let drawn = c .before in unfold methodDraw in rw (drawn .before .before .before .method5 .given .1) (drawn .sample-fixed-hamming-weight-ternary-values-to .ensures))
+    (λ c. search needs)
+    (λ c. let drawn = c .before in unfold methodDraw in rw (drawn .before .before .before .method6 .given .1) (drawn .sample-fixed-composition-ternary-values-to .ensures))
+    (λ c. search needs) returns-10 (λ c. search needs) returns-11
+    (λ c. search needs)
+    (λ c. let drawn = c .before in unfold methodDraw in rw (drawn .before .before .before .method8 .given .1) (drawn .sample-binomial-to .ensures))
+    (λ c. unfold methodDraw in rw (c .before .enum-told4 .given .1, c .refused .ensures)))

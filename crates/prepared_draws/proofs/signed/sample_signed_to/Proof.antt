@@ -1,0 +1,17 @@
+-- `signed::sample_signed_to` answers the number of its method, or draws by it.
+use Rattle.distr.specs.Draw.{judged}
+use borrow.Author.Needs.{needs}
+use borrow.Author.Tests.{ne-eqb}
+use Rattle.prepared_draws.proofs.Answers.{by-method}
+use Rattle.prepared_draws.proofs.signed.sample_signed_to.Statement.{statement}
+use Rattle.prepared_draws.proofs.signed.sample_signed_to.Tie as tie
+
+returns : tie.Need-returns
+unfolding judged
+returns c = rw (c .refused .ensures, ne-eqb _ 0 (c .before .if1 .taken))
+
+returns-2 : tie.Need-returns-2
+returns-2 c = by-method _ _ (c .before .before .before .if1 .left) (c .before .sample-to-with .ensures)
+
+pub sample-signed-to-spec : {M : Type 1} → statement M
+sample-signed-to-spec = tie.close (tie.spec (λ c κs. search needs) returns (λ c κs. search needs) (λ c. search needs) returns-2)

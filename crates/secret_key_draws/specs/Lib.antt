@@ -1,2 +1,0 @@
--- What each prepared method draws.
-pub mod Drawing
