@@ -17,7 +17,7 @@ ghost use Rattle.methods.specs.declared.SamplingMethod.{SamplingMethod};
 ghost use Rattle.signed_discrete_gaussian.specs.Lent.{lent};
 ghost use Rattle.prepared_draws.specs.Drawing.{preparedDraw, crtNumber, rowDraw, crtBy};
 
-// The number of a draw into n elements: that of the method, 21 for one that is not served, 22, 11, 6, then modulus by modulus 10 before 9.
+// The number of a draw into n elements by a method: 21 for one that is not served, 22, 11, 6, then modulus by modulus 10 before 9.
 fn crt_draw_number(
     method: SamplingMethod,
     words: usize,
