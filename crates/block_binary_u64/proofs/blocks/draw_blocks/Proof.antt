@@ -45,7 +45,8 @@ fill-block-requires c κs =
 loop-less : tie.Need-loop-less Inv-loop μ-loop
 loop-less c =
     let test = c .before .before .before .before .before .before .before .before in
-    omega (arith, test .before .before .before .before .pre .0)
+    let start = test .before .before .before .before in
+    omega (arith, start .pre .0)
 
 loop-again : tie.Need-loop-again Inv-loop μ-loop
 loop-again c encoding =

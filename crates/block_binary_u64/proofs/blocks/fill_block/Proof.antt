@@ -25,6 +25,6 @@ returns c =
 pub fill-block-spec : {M : Type 1} → statement M
 fill-block-spec =
     tie.close
-    (tie.spec (λ c κs. search needs) (λ c. search needs) (λ c. omega (arith, room (c .before .before .before .before .before)))
-    (λ c. omega (arith, room (c .before .before .before .before .before))) (λ c. omega (arith, room (c .before .before .before .before .before)))
-    (λ c. search needs) returns)
+    (tie.spec (λ c κs. search needs) (λ c. search needs) (λ c. let start = c .before .before .before .before .before in omega (arith, room start))
+    (λ c. let start = c .before .before .before .before .before in omega (arith, room start))
+    (λ c. let start = c .before .before .before .before .before in omega (arith, room start)) (λ c. search needs) returns)
