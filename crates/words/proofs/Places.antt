@@ -1,5 +1,5 @@
 -- What is read at a place of the words, and the place after it.
-use mathlib.Core.Path.{_≡_, refl}
+use mathlib.Core.Path.{_≡_, refl, ap}
 use mathlib.Core.Bool.{Bool, true, false, cond}
 use mathlib.Core.List.{List, [], _∷_}
 use Prim.Native.Nat.{ℕ, suc, _+_, _-_, _*_, _/_, _^_, _<_, _≤_}
@@ -7,8 +7,9 @@ use native.Mathlib.Nat.{ne-of-lt}
 use native.Mathlib.Omega.{arith}
 use lib.Dec.{leb, ltb}
 use borrow.Author.Tests.{le-ltb, ne-eqb}
-use lib.ListN.{length, getD, drop, length-drop, drop-of-length-le}
+use lib.ListN.{length, getD, take, drop, length-drop, drop-of-length-le}
 use lib.Seq.{drop-cons}
+use borrow.Rule.Slice.PartAt.{part-to-end}
 use Rattle.distr.specs.Words.{Read, got, short, mapRead, word, wide, choose, coin, chance}
 use Rattle.words.specs.declared.Taken.{Taken}
 use Rattle.words.specs.declared.Taken.the-variants.{Got, Short}
@@ -52,6 +53,16 @@ module _ (ws : List ℕ) where
   -- the words left from i on begin at i
   pub place-of : (i : ℕ) → i ≤ length ws → length ws - length (drop i ws) ≡ i
   place-of i h = omega (arith, length-drop i ws)
+
+  -- the words from a place on, as a slice of them is lent: those that are left there, and what is left of them begins so much later
+  abbrev pub lentFrom : ℕ → List ℕ
+  lentFrom place = take (length ws - place) (drop place ws)
+
+  pub lent-all : (place : ℕ) → lentFrom place ≡ drop place ws
+  lent-all place = part-to-end ws place
+
+  pub lent-place : (place i : ℕ) → place ≤ length ws → i ≤ length (lentFrom place) → length ws - length (drop i (lentFrom place)) ≡ place + i
+  lent-place place i h k = omega (arith, length-drop i (lentFrom place), ap length (lent-all place), length-drop place ws)
 
   pub word-there : (i : ℕ) → i < length ws → word (drop i ws) ≡ got (getD ws i 0) (drop (suc i) ws)
   unfolding word

@@ -8,8 +8,8 @@ use native.Mathlib.Numerals.{add-one, add-two}
 use native.Mathlib.Omega.{arith}
 use lib.Bits.{bitAnd, and-mask}
 use lib.Dec.{T, leb, ltb, eqb, lt→ltb, lit<}
-use borrow.Author.Tests.{eqb-true}
-use lib.ListN.{length, getD, drop, length-drop}
+use borrow.Author.Tests.{eqb-true, leb-true, leb-false}
+use lib.ListN.{length, getD, drop, length-drop, drop-of-length-le}
 use mir.Syntax.{w32, w64}
 use mir.Val.{Fits}
 use mir.Facts.{fits-widen}
@@ -69,7 +69,7 @@ pub magnitude-fits : (ws : List ℕ) (i end m after : ℕ) (r : Taken) → r ≡
 magnitude-fits ws i end m after r e told small = record { fits = omega (arith, chosen-below ws i m after (end + 1) (sym e ∙ told)) }
 
 module _ (endpoints ws : List ℕ) (place : ℕ) where
-  -- a try with fewer than two words left lacks one
+  -- with fewer than two words left a layer or a sign lacks one
   few : (xs : List ℕ) → length xs < 2 → propose endpoints xs ≡ short
   unfolding propose bindRead choose coin word mapRead
   few [] h = refl
@@ -80,16 +80,17 @@ module _ (endpoints ws : List ℕ) (place : ℕ) where
       go false v next none = refl
   few (w ∷ v ∷ xs) h = absurd (omega arith)
 
-  pub few-words : length ws - place < 2 → Proposes endpoints ws place Short
-  few-words h = record { reads = sym (few (drop place ws) (omega (arith, length-drop place ws))); sound = tt }
+  too-few : length ws - place < 2 → Proposes endpoints ws place Short
+  too-few h = record { reads = sym (few (drop place ws) (omega (arith, length-drop place ws))); sound = tt }
 
+  abbrev chosen : ℕ
+  chosen = bitAnd (getD ws place 0) (length endpoints - 2)
+
+  abbrev end : ℕ
+  end = getD endpoints (chosen + 1) 0
+
+  -- two words give a layer and a sign
   module _ (sizes : T (layerSizes endpoints)) (two : 2 ≤ length ws - place) (each : (i : ℕ) → Fits w32 (getD ws i 0)) where
-    abbrev chosen : ℕ
-    chosen = bitAnd (getD ws place 0) (length endpoints - 2)
-
-    abbrev end : ℕ
-    end = getD endpoints (chosen + 1) 0
-
     layer : choose (length endpoints - 1) (drop place ws) ≡ got chosen (drop (suc place) ws)
     layer =
         let whole = masks (getD ws place 0) (length endpoints - 1) sizes .1 in
@@ -104,15 +105,34 @@ module _ (endpoints ws : List ℕ) (place : ℕ) where
     unfolding propose bindRead mapRead
     lacking e = record { reads = rw (layer, tossed, e); sound = tt }
 
+    no-third : length ws - place < 3 → Proposes endpoints ws place Short
+    unfolding choose
+    no-third h = lacking (rw (drop-of-length-le ws {i = place + 2} (omega arith)))
+
+  -- a try with fewer than three words left lacks one
+  pub few-words : T (layerSizes endpoints) → ((i : ℕ) → Fits w32 (getD ws i 0)) → length ws - place < 3 → Proposes endpoints ws place Short
+  few-words sizes each h = go (leb 2 (length ws - place)) refl
+    where
+      go : (b : Bool) → leb 2 (length ws - place) ≡ b → Proposes endpoints ws place Short
+      go true t = no-third sizes (leb-true 2 (length ws - place) t) each h
+      go false t = too-few (leb-false 2 (length ws - place) t)
+
+  -- the third gives the magnitude
+  module _ (sizes : T (layerSizes endpoints)) (three : 3 ≤ length ws - place) (each : (i : ℕ) → Fits w32 (getD ws i 0)) where
+    two : 2 ≤ length ws - place
+    two = omega arith
+
     -- no word is accepted where the endpoint is 2^32 or more
     pub far-endpoint : 2 ^ 32 ≤ end → Proposes endpoints ws place Short
     far-endpoint h =
-        lacking (choose-none (suc end) (drop (place + 2) ws) (rw (div-eq-of-lt {n = 2 ^ 32} {m = suc end} (omega arith)) (mul-zero (suc end))))
+        lacking sizes two each
+        (choose-none (suc end) (drop (place + 2) ws) (rw (div-eq-of-lt {n = 2 ^ 32} {m = suc end} (omega arith)) (mul-zero (suc end))))
 
     -- the magnitude, as it was taken
     module _ (r : Taken) (told : r ≡ taken (length ws) (choose (end + 1) (drop (place + 2) ws))) where
       pub no-magnitude : r ≡ Missing → Proposes endpoints ws place Short
-      no-magnitude e = lacking (rw (add-one end) at (taken-short (length ws) (choose (end + 1) (drop (place + 2) ws)) (sym e ∙ told)))
+      no-magnitude e =
+          lacking sizes two each (rw (add-one end) at (taken-short (length ws) (choose (end + 1) (drop (place + 2) ws)) (sym e ∙ told)))
 
       module _ (m after : ℕ) (e : r ≡ There m after) (small : end ≤ 0xffff_ffff) where
         pub all-three :
@@ -126,4 +146,7 @@ module _ (endpoints ws : List ℕ) (place : ℕ) where
               below = omega (arith, chosen-below ws (place + 2) m after (end + 1) (sym e ∙ told));
               small = omega arith;
             } in
-            record { reads = rw (layer, tossed, rw (add-one end) at (took .reads)); sound = (on, omega (arith, took .later), took .within) }
+            record {
+              reads = rw (layer sizes two each, tossed sizes two each, rw (add-one end) at (took .reads));
+              sound = (on, omega (arith, took .later), took .within);
+            }

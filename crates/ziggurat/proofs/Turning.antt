@@ -1,17 +1,20 @@
 -- A filling loop, turn by turn: what a try makes of the output and of the words left, over any element type.
-use mathlib.Core.Path.{_≡_, sym, ap, subst, _∙_}
+use mathlib.Core.Path.{_≡_, refl, sym, ap, subst, _∙_}
 use mathlib.Core.Bool.{Bool, true, false, not, cond}
 use mathlib.Core.List.{List, map}
 use mathlib.Core.Logic.{_⊎_, inl, inr}
-use Prim.Native.Nat.{ℕ, _+_, _-_, _*_, _<_, _≤_}
+use Prim.Native.Nat.{ℕ, _+_, _-_, _*_, _^_, _<_, _≤_}
 use native.Mathlib.Nat.{add-zero}
 use native.Mathlib.Omega.{arith}
-use borrow.Author.Tests.{not-false}
+use borrow.Author.Needs.{sfits-of}
+use borrow.Author.Tests.{not-false, lt-ltb}
 use mir.Syntax.{w64}
-use mir.Val.{Fits, boolByte}
-use lib.Dec.{T}
+use mir.Val.{Fits, boolByte, toZ, ofZ}
+use mir.Facts.{toZ-ofZ}
+use lib.Dec.{T, ltb}
 use lib.ListN.{length, getD, drop, set, replicate}
 use lib.IntN.{ℤ, pos}
+use lib.Signed.{mag}
 use lib.Ieee.{Float, nan}
 use Rattle.distr.specs.Words.{Read, got, short}
 use Rattle.distr.specs.Constants.{outputLimit, invalidLayerTables, outOfWords}
@@ -28,7 +31,7 @@ use Rattle.distr.proofs.Writing.{map-id, map-replicate}
 use Rattle.distr.proofs.Drawing.{not-refused, settled-got, settled-short}
 use Rattle.numbers.proofs.Refusing.{drawNumber, number-by, number-passed, read-refused, read-passed}
 use Rattle.words.specs.Reading.{thresholdValue}
-use Rattle.words.proofs.Places.{place-of}
+use Rattle.words.proofs.Places.{lentFrom, lent-all, lent-place}
 use Rattle.ziggurat.specs.declared.sampling.Trial.{Trial}
 use Rattle.ziggurat.specs.declared.sampling.Attempted.{Attempted}
 use Rattle.ziggurat.specs.declared.sampling.Attempted.the-variants.{Got, Short}
@@ -44,6 +47,12 @@ use Rattle.ziggurat.proofs.Trying.{none-proposed, none-judged, one-judg
 pub signed-each : (cs : List ℤ) → cs ≡ map (λ c. c) cs
 signed-each cs = sym (map-id cs)
 
+-- and holds that of a trial, whose magnitude has 63 bits, as it is
+pub signed-held : (tried : Trial) {r : ℤ} → mag r < 2 ^ 63 → tried .magnitude < 2 ^ 63
+    → r ≡ cond (ltb (tried .magnitude) (2 ^ 63)) (withSign (tried .positive) (tried .magnitude)) (pos 0)
+    → toZ w64 (ofZ w64 r) ≡ withSign (tried .positive) (tried .magnitude)
+signed-held tried fits below e = toZ-ofZ (sfits-of fits) ∙ e ∙ rw (lt-ltb (tried .magnitude) (2 ^ 63) below)
+
 module _ {A : Type 0} (write : List ℤ → List A) (parameters : GaussianParameters) (endpoints : List ℕ) (heights curve : List Float)
     (words : List ℕ) (place : ℕ) (out₀ : List A) where
   abbrev t : Layers
@@ -57,13 +66,15 @@ module _ {A : Type 0} (write : List ℤ → List A) (parameters : GaussianParame
 
   -- the tables are good, the threshold is that of zero, the output is not too long, what is settled is the draw, and so much of the output is
   -- filled, each element by `put`
-  pub record Turning (put : ℤ → A) (zero : Threshold) (i at : ℕ) (out : List A) : Type 0 where
+  pub record Turning (put : ℤ → A) (zero : Threshold) (from : List ℕ) (i at : ℕ) (out : List A) : Type 0 where
     pub each : (cs : List ℤ) → write cs ≡ map put cs
     pub good : T (layerTables (parameters .«maximum_magnitude») t)
     pub threshold : thresholdValue zero ≡ zeroThreshold t
     pub limited : length out₀ ≤ outputLimit
-    pub draws : settled write (length words) place (length out₀) (layered (parameters .«standard_deviation») t (length out₀) (drop place words)) ≡ draw
-    pub filled : Filled put one words place out₀ i at out
+    pub begins : place ≤ length words
+    pub part : from ≡ lentFrom words place
+    pub draws : settled write (length words) place (length out₀) (layered (parameters .«standard_deviation») t (length out₀) from) ≡ draw
+    pub filled : Filled put one from 0 out₀ i at out
 
   -- before the loop: the number is the first that refuses, 13 by the tables
   module _ {own number : ℕ} (judged : own ≡ refuse (not (layerTables (parameters .«maximum_magnitude») t)) invalidLayerTables)
@@ -81,21 +92,30 @@ module _ {A : Type 0} (write : List ℤ → List A) (parameters : GaussianParame
           let all = number-passed (length words) place (length out₀) (refuse (not ok) invalidLayerTables) by-tables none in
           (all .0, all .1, subst T (sym (not-false ok (not-refused (not ok) 12 (all .2)))) tt)
 
+      -- the place is one of the words', also in bytes
+      pub place-within : place ≤ length words
+      place-within = passed .0
+
+      pub place-bytes : length words * 4 < 2 ^ 63 → Fits w64 (place * 4)
+      place-bytes room = record { fits = omega (arith, place-within) }
+
       pub heights-there : 0 < length heights
       heights-there = first-there (parameters .«maximum_magnitude») t (passed .2)
 
       pub turning-none : {put : ℤ → A} {zero : Threshold} → ((cs : List ℤ) → write cs ≡ map put cs) → zero ≡ zeroOver (getD heights 0 nan)
-          → Turning put zero 0 place out₀
-      turning-none {put} each e = record {
+          → Turning put zero (lentFrom words place) 0 0 out₀
+      turning-none {put} {zero} each e = record {
         each = each;
         good = passed .2;
         threshold = zero-made (parameters .«maximum_magnitude») t (passed .2) e;
         limited = passed .1;
-        draws = read-passed write _ words place out₀ by-tables (layered (parameters .«standard_deviation») t (length out₀)) none;
-        filled = filled-none put one words place out₀ (passed .0);
+        begins = passed .0;
+        part = refl;
+        draws = rw (lent-all words place) (read-passed write _ words place out₀ by-tables (layered (parameters .«standard_deviation») t (length out₀)) none);
+        filled = filled-none put one (lentFrom words place) 0 out₀ (omega arith);
       }
 
-  module _ {put : ℤ → A} {zero : Threshold} {i at : ℕ} {out : List A} (l : Turning put zero i at out) where
+  module _ {put : ℤ → A} {zero : Threshold} {from : List ℕ} {i at : ℕ} {out : List A} (l : Turning put zero from i at out) where
     abbrev deviation : Float
     deviation = parameters .«standard_deviation»
 
@@ -106,15 +126,19 @@ module _ {A : Type 0} (write : List ℤ → List A) (parameters : GaussianParame
     pub turn-sizes : T (layerSizes endpoints)
     turn-sizes = sizes most t (l .good)
 
-    pub turn-within : at ≤ length words
+    pub turn-within : at ≤ length from
     turn-within = l .filled .within
 
+    -- what is left of the part is what is left of the words
+    ended : length words - length (drop at from) ≡ place + at
+    ended = rw (l .part) (lent-place words place at (l .begins) (rw (l .part) at turn-within))
+
     -- the loop ends where the output is full
-    pub turn-full : {answer : Answer} → length out₀ ≤ i → answer ≡ success at → outcome answer out ≡ draw
+    pub turn-full : {answer : Answer} → length out₀ ≤ i → answer ≡ success (place + at) → outcome answer out ≡ draw
     turn-full h e =
         rw e
-        (settled-got write (length words) place (length out₀) out _ (drop at words) (place-of words at turn-within)
-        (map-read-same write (map put) (l .each) _ ∙ filled-all put one words place out₀ i at out h (l .filled)))
+        (settled-got write (length words) place (length out₀) out _ (drop at from) ended
+        (map-read-same write (map put) (l .each) _ ∙ filled-all put one from 0 out₀ i at out h (l .filled)))
         ∙ l .draws
 
     -- a turn: an attempt at a place of the output that is not filled yet
@@ -130,13 +154,13 @@ module _ {A : Type 0} (write : List ℤ → List A) (parameters : GaussianParame
       turn-count true = record { fits = omega (arith, l .limited) }
       turn-count false = record { fits = omega (arith, l .limited) }
 
-      module _ (told : Attempted) (attempts : Attempts endpoints (thresholdValue zero) words at told) where
-        lacking : Lacks endpoints (thresholdValue zero) words at → one (drop at words) ≡ short
-        lacking (unproposed p) = none-proposed deviation t (drop at words) (sym (p .reads))
+      module _ (told : Attempted) (attempts : Attempts endpoints (thresholdValue zero) from at told) where
+        lacking : Lacks endpoints (thresholdValue zero) from at → one (drop at from) ≡ short
+        lacking (unproposed p) = none-proposed deviation t (drop at from) (sym (p .reads))
         lacking (unjudged tried p e h) =
-            none-judged deviation t (drop at words) _ _ (sym (p .reads))
-            (judge-sides deviation most t (l .good) (tried .layer) (tried .magnitude) (p .sound .0) (drop (tried .place) words)
-            ∙ rw e (edge-lacks deviation t (tried .layer) (tried .magnitude) (thresholdValue zero) (l .threshold) words (tried .place) (p .sound .2) h))
+            none-judged deviation t (drop at from) _ _ (sym (p .reads))
+            (judge-sides deviation most t (l .good) (tried .layer) (tried .magnitude) (p .sound .0) (drop (tried .place) from)
+            ∙ rw e (edge-lacks deviation t (tried .layer) (tried .magnitude) (thresholdValue zero) (l .threshold) from (tried .place) (p .sound .2) h))
 
         -- one that lacks a word leaves the whole short
         pub turn-short : {answer : Answer} {cleared : List A} → told ≡ Short → answer ≡ refusal outOfWords place
@@ -144,56 +168,58 @@ module _ {A : Type 0} (write : List ℤ → List A) (parameters : GaussianParame
         turn-short {answer} {cleared} e a c =
             rw a
             (settled-short write (length words) place (length out₀) cleared _
-            (map-read-same write (map put) (l .each) _ ∙ filled-short put one words place out₀ i at out more (l .filled) (lacking (rw e at attempts)))
+            (map-read-same write (map put) (l .each) _ ∙ filled-short put one from 0 out₀ i at out more (l .filled) (lacking (rw e at attempts)))
             (c ∙ ap (λ (n : ℕ). replicate n (put (pos 0))) (l .filled .sized)
             ∙ sym (l .each (replicate (length out₀) (pos 0)) ∙ map-replicate put (length out₀) (pos 0))))
             ∙ l .draws
 
         module _ {tried : Trial} {inside : Bool} {after : ℕ} (begun : told ≡ Got tried inside after) where
-          ready : Ready endpoints (thresholdValue zero) words at tried inside after
+          ready : Ready endpoints (thresholdValue zero) from at tried inside after
           ready = rw begun at attempts
 
           -- what the judging at the edge asks for
           pub edge-on : OnTables t (tried .layer) (tried .magnitude)
           edge-on = on-tables deviation most t (l .good) (tried .layer) (tried .magnitude) (ready .reads .sound .0)
 
-          pub edge-there : inside ≡ false → tried .place + edgeWords (thresholdValue zero) (tried .magnitude) ≤ length words
+          pub edge-there : inside ≡ false → tried .place + edgeWords (thresholdValue zero) (tried .magnitude) ≤ length from
           edge-there e = omega (arith, ready .within, rw e at (ready .next))
 
           -- each turn takes a word
-          pub turn-less : length words - after < length words - at
+          pub turn-less : length from - after < length from - at
           turn-less = omega (arith, ready .reads .sound .1, ready .next, ready .within)
 
           -- how its trial came to pass or not: inside the layer above it passes, at the edge it is judged
           abbrev edgeJudges : Bool → Type 0
           edgeJudges r =
-              judgeEdge deviation t (tried .layer) (tried .magnitude) (drop (tried .place) words)
-              ≡ got r (drop (tried .place + edgeWords (thresholdValue zero) (tried .magnitude)) words)
+              judgeEdge deviation t (tried .layer) (tried .magnitude) (drop (tried .place) from)
+              ≡ got r (drop (tried .place + edgeWords (thresholdValue zero) (tried .magnitude)) from)
 
           abbrev Came : Bool → Type 0
           Came passed = ((inside ≡ true) × (passed ≡ true)) ⊎ ((inside ≡ false) × (r : Bool) × edgeJudges r × (passed ≡ r))
 
           judged-so : (passed : Bool) → Came passed
-              → judge deviation t (tried .layer) (tried .magnitude) (drop (tried .place) words) ≡ got passed (drop after words)
+              → judge deviation t (tried .layer) (tried .magnitude) (drop (tried .place) from) ≡ got passed (drop after from)
           judged-so passed came =
-              judge-sides deviation most t (l .good) (tried .layer) (tried .magnitude) (ready .reads .sound .0) (drop (tried .place) words)
+              judge-sides deviation most t (l .good) (tried .layer) (tried .magnitude) (ready .reads .sound .0) (drop (tried .place) from)
               ∙ rw (← ready .side, ready .next) (by-side came)
             where
               by-side : Came passed
-                  → cond inside (got true (drop (tried .place) words)) (judgeEdge deviation t (tried .layer) (tried .magnitude) (drop (tried .place) words))
-                  ≡ got passed (drop (tried .place + cond inside 0 (edgeWords (thresholdValue zero) (tried .magnitude))) words)
+                  → cond inside (got true (drop (tried .place) from)) (judgeEdge deviation t (tried .layer) (tried .magnitude) (drop (tried .place) from))
+                  ≡ got passed (drop (tried .place + cond inside 0 (edgeWords (thresholdValue zero) (tried .magnitude))) from)
               by-side (inl (e, p)) = rw (e, p, add-zero (tried .place))
               by-side (inr (e, r, j, p)) = rw (e, p, j)
 
           -- the trial is stored, and counted where it passes
           pub turn-next : (passed : Bool) → Came passed → {a : A} → a ≡ put (withSign (tried .positive) (tried .magnitude))
-              → Turning put zero (i + boolByte passed) after (set out i a)
+              → Turning put zero from (i + boolByte passed) after (set out i a)
           turn-next passed came {a} s = record {
             each = l .each;
             good = l .good;
             threshold = l .threshold;
             limited = l .limited;
+            begins = l .begins;
+            part = l .part;
             draws = l .draws;
-            filled = filled-turn put one words place out₀ i at after out a (withSign (tried .positive) (tried .magnitude)) passed more (l .filled)
-                (one-judged deviation t (drop at words) _ _ (sym (ready .reads .reads)) passed (drop after words) (judged-so passed came)) (ready .within) s;
+            filled = filled-turn put one from 0 out₀ i at after out a (withSign (tried .positive) (tried .magnitude)) passed more (l .filled)
+                (one-judged deviation t (drop at from) _ _ (sym (ready .reads .reads)) passed (drop after from) (judged-so passed came)) (ready .within) s;
           }

@@ -21,8 +21,9 @@ mod layer;
 mod sampling;
 
 // Draws coefficients, held as the encoding says. The tables are judged first, then the words are read try by try, and each trial's coefficient
-// is stored. One that is rejected is not counted, and the next is written over it: whether a trial passes is added and not branched on. Each
-// try reads a word or lacks one, so the words left are a measure. What was stored is cleared where the words run out.
+// is stored. One inside the layer above passes; one at the edge is stored before it is judged, so that less is kept meanwhile, and counted where
+// it passes: else the next is written over it. The words from the place on are a slice of their own, which the compiler keeps at hand. Each try
+// reads a word or lacks one, so the words left are a measure. What was stored is cleared where the words run out.
 pub fn sample_ziggurat_to(
     output: &mut [Out],
     encoding: Encoding,
@@ -42,19 +43,22 @@ pub fn sample_ziggurat_to(
         return refused(number, place);
     }
     let zero = zero_threshold(heights[0]);
+    let from = &words[place..];
     let n = output.len();
     let mut i: usize = 0;
-    let mut at = place;
+    let mut at: usize = 0;
     while i < n {
-        let Attempted::Got(tried, inside, after) = sampling::attempt(endpoints, zero, words, at)
+        let Attempted::Got(tried, inside, after) = sampling::attempt(endpoints, zero, from, at)
         else {
             clear(output);
             return refused(OUT_OF_WORDS, place);
         };
-        let passed = if inside {
-            true
+        if inside {
+            output[i] = coefficient(encoding, tried.positive, tried.magnitude as u64);
+            i += 1;
         } else {
-            sampling::passes_edge(
+            output[i] = coefficient(encoding, tried.positive, tried.magnitude as u64);
+            let passed = sampling::passes_edge(
                 parameters.standard_deviation,
                 zero,
                 endpoints,
@@ -62,13 +66,12 @@ pub fn sample_ziggurat_to(
                 curve,
                 tried.layer,
                 tried.magnitude,
-                words,
+                from,
                 tried.place,
-            )
-        };
-        output[i] = coefficient(encoding, tried.positive, tried.magnitude as u64);
-        i += passed as usize;
+            );
+            i += passed as usize;
+        }
         at = after;
     }
-    succeeded(at)
+    succeeded(place + at)
 }

@@ -17,13 +17,14 @@ ghost use Rattle.ziggurat.specs.Tables.{tables, layerSizes};
 ghost use Rattle.ziggurat.specs.Sampling.{Proposes, OnLayer, OnTables, isInside, edgeWords, Attempts, judgeEdge};
 
 // A layer, a coin for the sign, and a magnitude up to the layer's endpoint. The number of layers is a power of two, so the choice of the layer
-// masks a word and skips none. The coin is compared and not branched on.
+// masks a word and skips none. The coin is compared and not branched on. Each of the three reads a word: with fewer than
+// three left one is lacking.
 fn propose(endpoints: &[u64], words: &[u32], place: usize) -> Proposal
     requires { ⌜ T (layerSizes (now endpoints)) ⌝ }
     requires { ⌜ place ≤ length (now words) ⌝ }
     ensures { λ r. ⌜ Proposes (now (endpoints .entry)) (now (words .entry)) place r ⌝ }
 {
-    if words.len() - place < 2 {
+    if words.len() - place < 3 {
         return Proposal::Short;
     }
     let layer = (words[place] as usize & (endpoints.len() - 2)) + 1;

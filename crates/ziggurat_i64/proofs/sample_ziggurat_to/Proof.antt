@@ -1,39 +1,70 @@
 -- `sample_ziggurat_to` is refused by its number, or tries and stores, turn by turn. The measure is the words left, of which each try takes one.
-use mathlib.Core.Path.{_∙_}
-use mathlib.Core.Logic.{⊎-map}
-use Prim.Native.Nat.{_-_, _^_}
+use mathlib.Core.Path.{refl}
+use mathlib.Core.Logic.{inl, inr}
+use Prim.Native.Nat.{_-_}
 use native.Mathlib.Omega.{arith}
-use borrow.Author.Needs.{needs, sfits-of}
-use borrow.Author.Tests.{lt-ltb}
-use mir.Facts.{toZ-ofZ}
+use borrow.Author.Needs.{needs}
 use lib.ListN.{length}
-use Rattle.ziggurat.proofs.Turning.{Turning, signed-each, draw-refused, heights-there, turning-none, turn-sizes, turn-within, turn-short, edge-on, edge-there, turn-index, turn-bytes, turn-count, turn-less, turn-next, turn-full}
+use Rattle.ziggurat.proofs.Turning.{Turning, signed-each, signed-held, draw-refused, place-within, place-bytes, heights-there, turning-none, turn-sizes, turn-within, turn-short, edge-on, edge-there, turn-index, turn-bytes, turn-count, turn-less, turn-next, turn-full}
 use Rattle.ziggurat_i64.proofs.sample_ziggurat_to.Statement.{statement}
 use Rattle.ziggurat_i64.proofs.sample_ziggurat_to.Tie as tie
 
 abbrev Inv-loop : tie.InvT-loop
-Inv-loop output₀ encoding parameters endpoints heights curve words place own number zero n i₀ at₀ output i at =
-    Turning (λ cs. cs) parameters endpoints heights curve words place output₀ (λ c. c) zero i at output
+Inv-loop output₀ encoding parameters endpoints heights curve words place own number zero from n i₀ at₀ output i at =
+    Turning (λ cs. cs) parameters endpoints heights curve words place output₀ (λ c. c) zero from i at output
 
 abbrev μ-loop : tie.MeasureT-loop
-μ-loop output₀ encoding parameters endpoints heights curve words place own number zero n i₀ at₀ output i at = length words - at
+μ-loop output₀ encoding parameters endpoints heights curve words place own number zero from n i₀ at₀ output i at = length from - at
 
--- the turn stores its trial's coefficient, which passed inside the layer above or was judged at the edge
+loop-holds : tie.Need-loop-holds Inv-loop μ-loop
+loop-holds c =
+    let judged = c .before .before .before in
+    let numbered = judged .before in
+    turning-none _ _ _ _ _ _ _ _ (numbered .before .layer-number .ensures) (numbered .draw-number .ensures) (judged .if1 .left) signed-each
+    (c .before .zero-threshold .ensures)
+
+-- what the judging of a trial at the edge asks for
+passes-edge-requires : tie.Need-passes-edge-requires Inv-loop μ-loop
+passes-edge-requires c κs =
+    let edge = c .before .before in
+    let trial = edge .before .before in
+    let attempted = trial .before .before in
+    let turn = attempted .before in
+    let inv = turn .before .loop .inv in (
+      edge-on _ _ _ _ _ _ _ _ inv (turn .loop-test .taken) _ (attempted .attempt .ensures) (trial .tried .given .1),
+      (
+        inv .threshold,
+        edge-there _ _ _ _ _ _ _ _ inv (turn .loop-test .taken) _ (attempted .attempt .ensures) (trial .tried .given .1) (edge .if2 .left),
+      ),
+    )
+
+-- the turn stores its trial's coefficient, which passed inside the layer above
 loop-again : tie.Need-loop-again Inv-loop μ-loop
 loop-again c =
-    let trial = c .before .before .before .before in
+    let inside = c .before .before in
+    let trial = inside .before .before in
     let attempted = trial .before .before in
     let turn = attempted .before in
     turn-next _ _ _ _ _ _ _ _ (turn .before .loop .inv) (turn .loop-test .taken) _ (attempted .attempt .ensures) (trial .tried .given .1) _
-    (⊎-map (λ w. (w .0 .taken, w .1)) (λ w. (w .0 .left, w .1 .result, w .1 .ensures, w .2)) (c .before .before .if2 .came))
-    (toZ-ofZ (sfits-of (c .coefficient .ok)) ∙ c .coefficient .ensures ∙ rw (lt-ltb (trial .tried .given .0 .0 .magnitude) (2 ^ 63) (omega arith)))
+    (inl (inside .if2 .taken, refl)) (signed-held (trial .tried .given .0 .0) (c .coefficient .ok) (omega (arith, c .before .struct-known .given)) (c .coefficient .ensures))
+
+-- or is judged at the edge
+loop-again-2 : tie.Need-loop-again-2 Inv-loop μ-loop
+loop-again-2 c =
+    let edge = c .before .before .before in
+    let trial = edge .before .before in
+    let attempted = trial .before .before in
+    let turn = attempted .before in
+    turn-next _ _ _ _ _ _ _ _ (turn .before .loop .inv) (turn .loop-test .taken) _ (attempted .attempt .ensures) (trial .tried .given .1) _
+    (inr (edge .if2 .left, _, c .passes-edge .ensures, refl)) (signed-held (trial .tried .given .0 .0) (c .before .coefficient2 .ok) (omega (arith, c .before .before .struct-known2 .given)) (c .before .coefficient2 .ensures))
 
 pub sample-ziggurat-to-spec : {M : Type 1} → statement M
 sample-ziggurat-to-spec =
     tie.close
     (tie.spec Inv-loop μ-loop (λ c κs. search needs) (λ c κs. search needs) (λ c κs. search needs) (λ c. search draw-refused)
-    (λ c. search heights-there) (λ c κs. search needs) (λ c. search (turning-none, signed-each)) (λ c κs. (search turn-sizes, search turn-within))
-    (λ c. search needs) (λ c. search needs) (λ c κs. search needs) (λ c κs. search needs) (λ c. cc) (λ c. search turn-short)
-    (λ c κs. (search edge-on, (search, search edge-there))) (λ c. search needs) (λ c κs. search needs) (λ c. search turn-bytes)
-    (λ c. search turn-index) (λ c. search needs) (λ c. search turn-count) (λ c. search turn-less) loop-again (λ c κs. search needs) (λ c. cc)
-    (λ c. search turn-full))
+    (λ c. search heights-there) (λ c κs. search needs) (λ c. search place-bytes) (λ c. search place-within) (λ c. search place-within)
+    (λ c. search needs) loop-holds (λ c κs. (search turn-sizes, search turn-within)) (λ c. search needs) (λ c. search needs) (λ c κs. search needs)
+    (λ c κs. search needs) (λ c. cc) (λ c. search turn-short) (λ c. search needs) (λ c κs. search needs) (λ c. search turn-bytes)
+    (λ c. search turn-index) (λ c. search needs) (λ c. search needs) (λ c κs. search needs) (λ c. search turn-bytes) (λ c. search turn-index)
+    passes-edge-requires (λ c. search needs) (λ c. search turn-count) (λ c. search turn-less) loop-again (λ c. search turn-less) loop-again-2
+    (λ c. search needs) (λ c κs. search needs) (λ c. cc) (λ c. search turn-full))
