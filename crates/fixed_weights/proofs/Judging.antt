@@ -8,6 +8,7 @@ use borrow.Author.Tests.{le-ltb}
 use lib.ListN.{length, drop}
 use lib.IntN.{ℤ}
 use Rattle.distr.specs.Rule.{Rule, readBy}
+use Rattle.distr.specs.Constants.{outputLimit}
 use Rattle.distr.specs.Numbers.{badWeight}
 use Rattle.distr.specs.declared.answer.Answer.{Answer}
 use Rattle.distr.specs.Answers.{refusal}
@@ -26,12 +27,13 @@ not-heavy weight n h l = rw (le-ltb n weight h, le-ltb (2 ^ 64 - 1) weight (omeg
 -- what is known where the numbers let a draw pass
 pub record Passed (wordCount place n weight : ℕ) : Type 0 where
   pub there : place ≤ wordCount
+  pub limited : n ≤ outputLimit
   pub light : weight ≤ n
 
 pub passed : {wordCount place n weight k : ℕ} → k ≡ weightNumber wordCount place n weight → k ≡ 0 → Passed wordCount place n weight
 passed {wordCount} {place} {n} {weight} e z =
     let good = number-passed wordCount place n (badWeight weight n) e z in
-    record { there = good .0; light = weight-fits weight n (good .2) }
+    record { there = good .0; limited = good .1; light = weight-fits weight n (good .2) }
 
 -- what a function that plans hands back, by its number
 pub planning-refused : (k : ℕ) {number : ℕ} (p : Plan) → k ≡ number → (k ≡ 0 → ⊥) → Refused k ≡ planning number p
@@ -67,6 +69,9 @@ module _ (wordCount place n weight : ℕ) (p : Plan) {r : Planning} {q : Plan} (
 
   pub plan-there : place ≤ wordCount
   plan-there = good .there
+
+  pub plan-limited : n ≤ outputLimit
+  plan-limited = good .limited
 
   pub plan-is : (P : Plan → Type 0) → (weight ≤ n → P p) → P q
   plan-is P of = subst P (told .1) (of (good .light))

@@ -12,6 +12,7 @@ use Rattle.distr.specs.declared.answer.Answer.{Answer}
 use Rattle.distr.specs.Answers.{refusal, success}
 use Rattle.distr.specs.Draw.{outcome}
 use Rattle.distr.proofs.Writing.{take-replicate}
+use Rattle.words.proofs.Places.{lentFrom}
 use Rattle.fixed_weights.specs.declared.choices.Signing.{Signing}
 use Rattle.fixed_weights.specs.declared.choices.Signing.the-variants.{Got, Short}
 use Rattle.fixed_weights.specs.Inserting.{SignAndPlace, signAndPlace, signing, insertedAt, insertSigns, placed, insertingSigns}
@@ -29,9 +30,9 @@ module _ {A : Type 0} (value : ℕ → A) (m w left : ℕ) (xs : List A) (ws : L
   unfolding insertSigns bindRead
   signs-stop e = rw e
 
-module _ {A : Type 0} (z : A) (table : List A) (words : List ℕ) (n weight place : ℕ) where
+module _ {A : Type 0} (z : A) (table : List A) (words : List ℕ) (n weight : ℕ) where
   abbrev goal : Read (List A)
-  goal = insertingSigns table z weight n (drop place words)
+  goal = insertingSigns table z weight n words
 
   -- the signs still to be inserted at index i, `left` of them at hand, the lowest bits of w
   abbrev still : ℕ → ℕ → ℕ → List A → List ℕ → Read (List A)
@@ -40,37 +41,25 @@ module _ {A : Type 0} (z : A) (table : List A) (words : List ℕ) (n weight plac
   pub record SignTurn (i at w left : ℕ) (out : List A) : Type 0 where
     pub turn : Turn words n goal (still i w left) i at out
 
-module _ {A : Type 0} {z : A} {table : List A} {words : List ℕ} {n weight place : ℕ} where
-  pub signs-start : {out : List A} → weight ≤ n → place ≤ length words → out ≡ replicate n (getD table 2 z)
-      → SignTurn z table words n weight place (n - weight) place 0 0 out
-  signs-start {out} h w e =
+module _ {A : Type 0} {z : A} {table : List A} {words : List ℕ} {n weight : ℕ} where
+  pub signs-start : {out : List A} → weight ≤ n → out ≡ replicate n (getD table 2 z) → SignTurn z table words n weight (n - weight) 0 0 0 out
+  signs-start {out} h e =
       let all : n - (n - weight) ≡ weight = omega arith in
       record {
         turn = record {
           reach = omega arith;
           size = ap length e ∙ length-replicate n (getD table 2 z);
-          within = w;
+          within = omega arith;
           reading = rw all
-              (ap (λ (t : List A). insertSigns (λ b. getD table b z) weight 0 0 t (drop place words))
+              (ap (λ (t : List A). insertSigns (λ b. getD table b z) weight 0 0 t words)
               (ap (take (n - weight)) e ∙ take-replicate (n - weight) n (getD table 2 z) (omega arith)));
         };
       }
 
-  module _ {i at w left : ℕ} {out : List A} (t : SignTurn z table words n weight place i at w left out) where
-    abbrev Answers : Answer → List A → Type 0
-    Answers answer out′ = outcome answer out′ ≡ placed z (length words) place n (goal z table words n weight place)
-
-    pub signs-done : {answer : Answer} → answer ≡ success at → n ≤ i → Answers answer out
-    unfolding insertSigns
-    signs-done e h =
-        let none : n - i ≡ 0 = omega arith in
-        rw e
-        (placed-got z words place n _ at out (t .turn .within)
-        (turn-end words n (goal z table words n weight place) (still z table words n weight place i w left) i at out (t .turn) h (λ xs ws. rw none)))
-
+  module _ {i at w left : ℕ} {out : List A} (t : SignTurn z table words n weight i at w left out) where
     -- a choice among i + 1 comes next; r is what it hands back
     module _ (more : i < n) {r : Signing} (told : r ≡ signing (length words) (signAndPlace (i + 1) w left (drop at words))) where
-      one-more : still z table words n weight place i w left (take i out) (drop at words)
+      one-more : still z table words n weight i w left (take i out) (drop at words)
           ≡ insertSigns (λ b. getD table b z) (suc (n - suc i)) w left (take i out) (drop at words)
       one-more = ap (λ (m : ℕ). insertSigns (λ b. getD table b z) m w left (take i out) (drop at words)) (omega arith)
 
@@ -92,19 +81,37 @@ module _ {A : Type 0} {z : A} {table : List A} {words : List ℕ} {n weight plac
         sign-code = omega (arith, drawn .is-bit)
 
         pub signs-next : {out′ : List A} → out′ ≡ set (set out i (getD out s z)) s (getD table bit z)
-            → SignTurn z table words n weight place (i + 1) after rest fewer out′
+            → SignTurn z table words n weight (i + 1) after rest fewer out′
         signs-next o =
             rw o
             (record {
-              turn = turn-next words n _ _ i at out (t .turn) (still z table words n weight place (i + 1) rest fewer) s after (getD table bit z) z more
+              turn = turn-next words n _ _ i at out (t .turn) (still z table words n weight (i + 1) rest fewer) s after (getD table bit z) z more
                   (drawn .below) (drawn .within)
                   (rw (add-one i)
                   (one-more ∙ signs-step (λ b. getD table b z) (n - suc i) w left (take i out) (drop at words) _ _ (choice ∙ drawn .reads)));
             })
 
-      pub signs-short : {answer : Answer} {out′ : List A} → r ≡ Short → answer ≡ refusal outOfWords place → out′ ≡ replicate (length out) z → Answers answer out′
-      signs-short e a o = rw (a, o, t .turn .size)
-          (placed-short z words place n _
-          (sym (t .turn .reading) ∙ one-more
+      signs-stopped : r ≡ Short → goal z table words n weight ≡ short
+      signs-stopped e =
+          sym (t .turn .reading) ∙ one-more
           ∙ signs-stop (λ b. getD table b z) (n - suc i) w left (take i out) (drop at words)
-          (choice ∙ signing-short (length words) (signAndPlace (i + 1) w left (drop at words)) (sym e ∙ told))))
+          (choice ∙ signing-short (length words) (signAndPlace (i + 1) w left (drop at words)) (sym e ∙ told))
+
+-- the answers, from a place of the words: the loop is lent those from there on
+module _ {A : Type 0} (z : A) (table : List A) (words : List ℕ) (n weight place : ℕ) where
+  abbrev Answers : Answer → List A → Type 0
+  Answers answer out = outcome answer out ≡ placed z (length words) place n (goal z table (drop place words) n weight)
+
+  module _ {i next w left : ℕ} {out : List A} (t : SignTurn z table (lentFrom words place) n weight i next w left out) where
+    pub signs-done : {answer : Answer} → place ≤ length words → answer ≡ success (place + next) → n ≤ i → Answers answer out
+    unfolding insertSigns
+    signs-done p e h =
+        let none : n - i ≡ 0 = omega arith in
+        rw e
+        (placed-got z words place n (insertingSigns table z weight n) next out p (t .turn .within)
+        (turn-end (lentFrom words place) n _ (still z table (lentFrom words place) n weight i w left) i next out (t .turn) h (λ xs ws. rw none)))
+
+    pub signs-short : {answer : Answer} {out′ : List A} {r : Signing} → i < n
+        → r ≡ signing (length (lentFrom words place)) (signAndPlace (i + 1) w left (drop next (lentFrom words place))) → r ≡ Short
+        → answer ≡ refusal outOfWords place → out′ ≡ replicate (length out) z → Answers answer out′
+    signs-short h told e a o = rw (a, o, t .turn .size) (placed-short z words place n (insertingSigns table z weight n) (signs-stopped t h told e))

@@ -11,6 +11,7 @@ use Rattle.distr.specs.Words.{Read, got, short, mapRead, bindRead, word, choose
 use Rattle.distr.specs.Rule.{Rule, readBy}
 use Rattle.distr.specs.Packed.{digits, signValue, signsAlone}
 use Rattle.distr.specs.Insertion.{countUp, inserted, signs, chooseSigned, insertSigned, signedInsertion, fixedTernaryWeight}
+use Rattle.distr.specs.Constants.{outputLimit}
 use Rattle.distr.specs.Numbers.{badWeight}
 use Rattle.distr.specs.declared.answer.Answer.{Answer}
 use Rattle.distr.specs.Answers.{refusal}
@@ -143,3 +144,6 @@ module _ (wordCount place n weight : ℕ) {k : ℕ} (number : k ≡ weightNumber
 
   pub weight-there : place ≤ wordCount
   weight-there = good .there
+
+  pub weight-limited : n ≤ outputLimit
+  weight-limited = good .limited

@@ -18,7 +18,7 @@ use Rattle.distr.proofs.Writing.{take-replicate}
 use Rattle.words.specs.declared.Taken.{Taken}
 use Rattle.words.specs.declared.Taken.the-variants.{Got, Short}
 use Rattle.words.specs.Reading.{taken}
-use Rattle.words.proofs.Places.{place-of}
+use Rattle.words.proofs.Places.{lentFrom, lent-all, lent-place}
 use Rattle.words.proofs.Taking.{took-choice, chosen-below, taken-short}
 use Rattle.fixed_weights.specs.Table.{entries}
 use Rattle.fixed_weights.specs.declared.plans.Plan.{Plan}
@@ -54,16 +54,18 @@ module _ {A : Type 0} (words : List ℕ) (n : ℕ) (goal : Read (List A)) where
           ∙ sym e ∙ now .reading);
     }
 
--- the answer of a draw whose reading is known
-module _ {A : Type 0} (z : A) (words : List ℕ) (place n : ℕ) (goal : Read (List A)) where
-  pub placed-got : (at : ℕ) (out : List A) → at ≤ length words → goal ≡ got out (drop at words)
-      → _≡_ {A = Outcome A} (record { number = 0; place = at; output = out }) (placed z (length words) place n goal)
+-- the answer of a draw whose reading of the words from its place on is known
+module _ {A : Type 0} (z : A) (words : List ℕ) (place n : ℕ) (reading : List ℕ → Read (List A)) where
+  pub placed-got : (next : ℕ) (out : List A) → place ≤ length words → next ≤ length (lentFrom words place)
+      → reading (lentFrom words place) ≡ got out (drop next (lentFrom words place))
+      → _≡_ {A = Outcome A} (record { number = 0; place = place + next; output = out }) (placed z (length words) place n (reading (drop place words)))
   unfolding placed
-  placed-got at out h e = rw (e, place-of words at h)
+  placed-got next out w h e = rw (ap reading (sym (lent-all words place)) ∙ e, lent-place words place next w h)
 
-  pub placed-short : goal ≡ short → _≡_ {A = Outcome A} (record { number = 23; place = place; output = replicate n z }) (placed z (length words) place n goal)
+  pub placed-short : reading (lentFrom words place) ≡ short
+      → _≡_ {A = Outcome A} (record { number = 23; place = place; output = replicate n z }) (placed z (length words) place n (reading (drop place words)))
   unfolding placed
-  placed-short e = rw e
+  placed-short e = rw (ap reading (sym (lent-all words place)) ∙ e)
 
 -- the codes that a plan still inserts from index i on, the second from `split` on
 abbrev pub codesFrom : ℕ → ℕ → ℕ → ℕ → ℕ → List ℕ
@@ -98,40 +100,39 @@ module _ {A : Type 0} (z : A) (table : List A) (words : List ℕ) (n first secon
   abbrev still : ℕ → List A → List ℕ → Read (List A)
   still i = insertAll (entries table z (codesFrom first second split n i))
 
-  -- a turn of the loop that inserts by a plan, begun at index `start` and `place` with copies of f
-  pub record Inserted (start place : ℕ) (f : A) (i at : ℕ) (out : List A) : Type 0 where
+  -- a turn of the loop that inserts by a plan, begun at index `start` with copies of f and at the first of the words
+  pub record Inserted (start : ℕ) (f : A) (i at : ℕ) (out : List A) : Type 0 where
     pub room : split ≤ n
-    pub turn : Turn words n (still start (replicate start f) (drop place words)) (still i) i at out
+    pub turn : Turn words n (still start (replicate start f) words) (still i) i at out
 
 -- at its start the loop wants the plan's reading
-wanted-by-plan : {A : Type 0} (z : A) (table : List A) (words : List ℕ) (n place : ℕ) (p : Plan) → planned p ≤ n
+wanted-by-plan : {A : Type 0} (z : A) (table : List A) (words : List ℕ) (n : ℕ) (p : Plan) → planned p ≤ n
     → still z table words n (p .first) (p .second) (n - p .seconds) (n - p .seconds - p .firsts)
-    (replicate (n - p .seconds - p .firsts) (getD table (p .fill) z)) (drop place words)
-    ≡ inserting table z p n (drop place words)
-wanted-by-plan z table words n place p h =
+    (replicate (n - p .seconds - p .firsts) (getD table (p .fill) z)) words
+    ≡ inserting table z p n words
+wanted-by-plan z table words n p h =
     let start : n - p .seconds - p .firsts ≡ n - planned p = omega arith in
     rw start
-    (ap (λ (cs : List ℕ). insertAll (entries table z cs) (replicate (n - planned p) (getD table (p .fill) z)) (drop place words))
+    (ap (λ (cs : List ℕ). insertAll (entries table z cs) (replicate (n - planned p) (getD table (p .fill) z)) words)
     (codes-same (p .first) (p .second) (n - p .seconds - (n - planned p)) (n - (n - planned p) - (n - p .seconds - (n - planned p))) (p .firsts) (p .seconds)
     (omega arith) (omega arith)))
 
-module _ {A : Type 0} {z : A} {table : List A} {words : List ℕ} {n first second split start place : ℕ} {f : A} where
-  inserted-start : {out : List A} → split ≤ n → start ≤ split → place ≤ length words → out ≡ replicate n f
-      → Inserted z table words n first second split start place f start place out
-  inserted-start {out} r h w e = record {
+module _ {A : Type 0} {z : A} {table : List A} {words : List ℕ} {n first second split start : ℕ} {f : A} where
+  inserted-start : {out : List A} → split ≤ n → start ≤ split → out ≡ replicate n f → Inserted z table words n first second split start f start 0 out
+  inserted-start {out} r h e = record {
     room = r;
     turn = record {
       reach = omega arith;
       size = ap length e ∙ length-replicate n f;
-      within = w;
-      reading = ap (λ (t : List A). still z table words n first second split start t (drop place words))
+      within = omega arith;
+      reading = ap (λ (t : List A). still z table words n first second split start t words)
           (ap (take start) e ∙ take-replicate start n f (omega arith));
     };
   }
 
-  module _ {i at : ℕ} {out : List A} (t : Inserted z table words n first second split start place f i at out) where
+  module _ {i at : ℕ} {out : List A} (t : Inserted z table words n first second split start f i at out) where
     abbrev goal : Read (List A)
-    goal = still z table words n first second split start (replicate start f) (drop place words)
+    goal = still z table words n first second split start (replicate start f) words
 
     inserted-end : n ≤ i → goal ≡ got out (drop at words)
     unfolding insertAll
@@ -157,7 +158,7 @@ module _ {A : Type 0} {z : A} {table : List A} {words : List ℕ} {n first secon
         insert-place = omega (arith, t .turn .size, chosen-below words at s next (i + 1) (sym chosen ∙ told))
 
         pub inserted-next : {code : ℕ} {out′ : List A} → code ≡ cond (ltb i split) first second
-            → out′ ≡ set (set out i (getD out s z)) s (getD table code z) → Inserted z table words n first second split start place f (i + 1) next out′
+            → out′ ≡ set (set out i (getD out s z)) s (getD table code z) → Inserted z table words n first second split start f (i + 1) next out′
         inserted-next {code} {out′} c o =
             let took = took-choice words at s next (i + 1) (sym chosen ∙ told) in
             let below = chosen-below words at s next (i + 1) (sym chosen ∙ told) in
@@ -178,23 +179,28 @@ module _ {n : ℕ} {p : Plan} (ready : Ready p n) where
   pub plan-code : (i split code : ℕ) → code ≡ cond (ltb i split) (p .first) (p .second) → code < 3
   plan-code i split code e = rw e (cond-below (ltb i split) (ready .first-code) (ready .second-code))
 
-  module _ {A : Type 0} (z : A) (table : List A) (words : List ℕ) (place : ℕ) where
-    abbrev InPlan : ℕ → ℕ → List A → Type 0
-    InPlan i at out =
-        Inserted z table words n (p .first) (p .second) (n - p .seconds) (n - p .seconds - p .firsts) place (getD table (p .fill) z) i at out
+  abbrev InPlan : {A : Type 0} → A → List A → List ℕ → ℕ → ℕ → List A → Type 0
+  InPlan z table words i at out =
+      Inserted z table words n (p .first) (p .second) (n - p .seconds) (n - p .seconds - p .firsts) (getD table (p .fill) z) i at out
 
+  pub plan-start : {A : Type 0} (z : A) (table : List A) (words : List ℕ) {out : List A} → out ≡ replicate n (getD table (p .fill) z)
+      → InPlan z table words (n - p .seconds - p .firsts) 0 out
+  plan-start z table words e = inserted-start (omega arith) (omega arith) e
+
+  -- its answers, from a place of the words: the loop is lent those from there on
+  module _ {A : Type 0} (z : A) (table : List A) (words : List ℕ) (place : ℕ) where
     abbrev Answers : Answer → List A → Type 0
     Answers answer out = outcome answer out ≡ placed z (length words) place n (inserting table z p n (drop place words))
 
-    pub plan-start : {out : List A} → place ≤ length words → out ≡ replicate n (getD table (p .fill) z) → InPlan (n - p .seconds - p .firsts) place out
-    plan-start w e = inserted-start (omega arith) (omega arith) w e
+    module _ {i next : ℕ} {out : List A} (t : InPlan z table (lentFrom words place) i next out) where
+      pub plan-done : {answer : Answer} → place ≤ length words → answer ≡ success (place + next) → n ≤ i → Answers answer out
+      plan-done w e h = rw e
+          (placed-got z words place n (inserting table z p n) next out w (t .turn .within)
+          (sym (wanted-by-plan z table (lentFrom words place) n p (ready .room)) ∙ inserted-end t h))
 
-    module _ {i at : ℕ} {out : List A} (t : InPlan i at out) where
-      pub plan-done : {answer : Answer} → answer ≡ success at → n ≤ i → Answers answer out
-      plan-done e h = rw e
-          (placed-got z words place n _ at out (t .turn .within) (sym (wanted-by-plan z table words n place p (ready .room)) ∙ inserted-end t h))
-
-      pub plan-short : {answer : Answer} {out′ : List A} {r : Taken} → i < n → r ≡ taken (length words) (choose (i + 1) (drop at words)) → r ≡ Short
+      pub plan-short : {answer : Answer} {out′ : List A} {r : Taken} → i < n
+          → r ≡ taken (length (lentFrom words place)) (choose (i + 1) (drop next (lentFrom words place))) → r ≡ Short
           → answer ≡ refusal outOfWords place → out′ ≡ replicate (length out) z → Answers answer out′
       plan-short h told e a o = rw (a, o, t .turn .size)
-          (placed-short z words place n _ (sym (wanted-by-plan z table words n place p (ready .room)) ∙ inserted-short t h told e))
+          (placed-short z words place n (inserting table z p n)
+          (sym (wanted-by-plan z table (lentFrom words place) n p (ready .room)) ∙ inserted-short t h told e))

@@ -15,6 +15,7 @@ use words::Taken;
 ghost use mathlib.Core.Path.{_≡_};
 ghost use Prim.Native.Nat.{_≤_, _<_};
 ghost use lib.ListN.{length, getD, drop, set, replicate};
+ghost use Rattle.distr.specs.Constants.{outputLimit};
 ghost use Rattle.distr.specs.Draw.{outcome};
 ghost use Rattle.output_u64.specs.Out.{zero};
 ghost use Rattle.fixed_weights.specs.Inserting.{placed, inserting, insertingSigns};
@@ -39,6 +40,8 @@ fn insert_at(output: &mut [Out], i: usize, s: usize, values: &[Out; 3], code: us
 }
 
 // Fills the output, then inserts by the plan at each index from the first that is left, at a place chosen among those up to it.
+// The words from the place on are a slice of their own, which the compiler keeps at hand in the loop. The cast of the index
+// tells it that a choice is among at most 65,536, so that the choice's size needs no test.
 pub(crate) fn insert_random_values(
     output: &mut [Out],
     values: &[Out; 3],
@@ -46,7 +49,7 @@ pub(crate) fn insert_random_values(
     words: &[u32],
     place: usize,
 ) -> Answer
-    requires { ⌜ Ready plan (length (now output)) × (place ≤ length (now words)) ⌝ }
+    requires { ⌜ Ready plan (length (now output)) × (length (now output) ≤ outputLimit) × (place ≤ length (now words)) ⌝ }
     ensures { λ r. ⌜ outcome r (now (output .exit)) ≡ placed zero (length (now (words .entry))) place (length (now (output .entry))) (inserting (now (values .entry)) zero plan (length (now (output .entry))) (drop place (now (words .entry)))) ⌝ }
 {
     let n = output.len();
@@ -56,9 +59,10 @@ pub(crate) fn insert_random_values(
     let split = n - plan.seconds;
     fill_with(output, values, filling);
     let mut i = split - plan.firsts;
-    let mut next = place;
+    let from = &words[place..];
+    let mut next: usize = 0;
     while i < n {
-        match words::uniform_below(words, next, i as u64 + 1) {
+        match words::uniform_below(from, next, i as u16 as u64 + 1) {
             Taken::Got {
                 value,
                 place: after,
@@ -74,10 +78,11 @@ pub(crate) fn insert_random_values(
             }
         }
     }
-    succeeded(next)
+    succeeded(place + next)
 }
 
-// Fills the output with zeros, then inserts `hamming_weight` signs, each at a place chosen among those up to its index.
+// Fills the output with zeros, then inserts `hamming_weight` signs, each at a place chosen among those up to its index. The slice of the
+// words and the cast are as above.
 pub(crate) fn insert_random_signs(
     output: &mut [Out],
     values: &[Out; 3],
@@ -85,17 +90,18 @@ pub(crate) fn insert_random_signs(
     words: &[u32],
     place: usize,
 ) -> Answer
-    requires { ⌜ («hamming_weight» ≤ length (now output)) × (place ≤ length (now words)) ⌝ }
+    requires { ⌜ («hamming_weight» ≤ length (now output)) × (length (now output) ≤ outputLimit) × (place ≤ length (now words)) ⌝ }
     ensures { λ r. ⌜ outcome r (now (output .exit)) ≡ placed zero (length (now (words .entry))) place (length (now (output .entry))) (insertingSigns (now (values .entry)) zero «hamming_weight» (length (now (output .entry))) (drop place (now (words .entry)))) ⌝ }
 {
     let n = output.len();
     fill_with(output, values, 2);
     let mut i = n - hamming_weight;
-    let mut at = place;
+    let from = &words[place..];
+    let mut at: usize = 0;
     let mut signs: u64 = 0;
     let mut left: usize = 0;
     while i < n {
-        match choices::sign_and_place(words, at, signs, left, i as u64 + 1) {
+        match choices::sign_and_place(from, at, signs, left, i as u16 as u64 + 1) {
             Signing::Got {
                 bit,
                 selected,
@@ -115,5 +121,5 @@ pub(crate) fn insert_random_signs(
             }
         }
     }
-    succeeded(at)
+    succeeded(place + at)
 }

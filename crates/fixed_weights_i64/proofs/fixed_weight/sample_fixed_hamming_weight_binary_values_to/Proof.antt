@@ -1,7 +1,7 @@
 -- `fixed_weight::sample_fixed_hamming_weight_binary_values_to` refuses by its numbers, or draws by its plan.
 use borrow.Author.Needs.{needs}
 use Rattle.fixed_weights.proofs.PlanRules.{binary-planned, binary-ready}
-use Rattle.fixed_weights.proofs.Judging.{plan-ready, plan-there, plan-refused}
+use Rattle.fixed_weights.proofs.Judging.{plan-ready, plan-limited, plan-there, plan-refused}
 use Rattle.fixed_weights.proofs.Planning.{plan-draws, holds-signed}
 use Rattle.fixed_weights_i64.proofs.fixed_weight.sample_fixed_hamming_weight_binary_values_to.Statement.{statement}
 use Rattle.fixed_weights_i64.proofs.fixed_weight.sample_fixed_hamming_weight_binary_values_to.Tie as tie
@@ -9,6 +9,6 @@ use Rattle.fixed_weights_i64.proofs.fixed_weight.sample_fixed_hamming_w
 pub sample-fixed-hamming-weight-binary-values-to-spec : {M : Type 1} → statement M
 sample-fixed-hamming-weight-binary-values-to-spec =
     tie.close
-    (tie.spec (λ c κs. search needs) (λ c. search needs) (λ c κs. search needs) (λ c κs. (search (plan-ready, binary-ready), search plan-there))
+    (tie.spec (λ c κs. search needs) (λ c. search needs) (λ c κs. search needs) (λ c κs. (search (plan-ready, binary-ready), search plan-limited, search plan-there))
     (λ c. search needs) (λ c κs. search needs) (λ c. search needs) (λ c. search (plan-draws, binary-planned, holds-signed))
     (λ c. search plan-refused))

@@ -9,16 +9,17 @@ use Rattle.fixed_weights_i64.proofs.insertion.insert_random_signs.State
 use Rattle.fixed_weights_i64.proofs.insertion.insert_random_signs.Tie as tie
 
 abbrev Inv-loop : tie.InvT-loop
-Inv-loop output₀ values hamming-weight words place n i₀ at₀ signs₀ left₀ output i at signs left =
-    SignTurn (pos 0) values words n hamming-weight place i at signs left output
+Inv-loop output₀ values hamming-weight words place n i₀ from at₀ signs₀ left₀ output i at signs left =
+    SignTurn (pos 0) values from n hamming-weight i at signs left output
 
 abbrev μ-loop : tie.MeasureT-loop
-μ-loop output₀ values hamming-weight words place n i₀ at₀ signs₀ left₀ output i at signs left = n - i
+μ-loop output₀ values hamming-weight words place n i₀ from at₀ signs₀ left₀ output i at signs left = n - i
 
 pub insert-random-signs-spec : {M : Type 1} → statement M
 insert-random-signs-spec =
     tie.close
-    (tie.spec Inv-loop μ-loop (λ c κs. search needs) (λ c. omega arith) (λ c. search signs-start) (λ c. omega arith) (λ c κs. search needs)
-    (λ c. search needs) (λ c κs. (search sign-index, search sign-place, search sign-code)) (λ c. omega arith) (λ c. omega arith)
-    (λ c. search signs-next) (λ c. search needs) (λ c κs. search needs) (λ c κs. search needs) (λ c. cc) (λ c. search signs-short)
-    (λ c κs. search needs) (λ c. cc) (λ c. search signs-done))
+    (tie.spec Inv-loop μ-loop (λ c κs. search needs) (λ c. omega arith) (λ c. omega arith) (λ c. search needs) (λ c. search needs) (λ c. search needs)
+    (λ c. search signs-start) (λ c. omega arith) (λ c. omega arith) (λ c. omega arith) (λ c κs. search needs) (λ c. search needs)
+    (λ c κs. (search sign-index, search sign-place, search sign-code)) (λ c. omega arith) (λ c. omega arith) (λ c. search signs-next)
+    (λ c. search needs) (λ c κs. search needs) (λ c κs. search needs) (λ c. cc) (λ c. search signs-short) (λ c. omega arith) (λ c κs. search needs)
+    (λ c. cc) (λ c. search signs-done))

@@ -1,7 +1,7 @@
 -- `fixed_weight::sample_fixed_hamming_weight_ternary_values_to` refuses by its numbers, draws only signs, or inserts signs.
 use borrow.Author.Needs.{needs}
 use Rattle.fixed_weights.proofs.Planning.{holds-residue}
-use Rattle.fixed_weights.proofs.Signing.{weight-refused, weight-light, weight-there, all-signs, signs-draw}
+use Rattle.fixed_weights.proofs.Signing.{weight-refused, weight-light, weight-limited, weight-there, all-signs, signs-draw}
 use Rattle.fixed_weights_u64.proofs.fixed_weight.sample_fixed_hamming_weight_ternary_values_to.Statement.{statement}
 use Rattle.fixed_weights_u64.proofs.fixed_weight.sample_fixed_hamming_weight_ternary_values_to.Tie as tie
 
@@ -9,5 +9,5 @@ pub sample-fixed-hamming-weight-ternary-values-to-spec : {M : Type 1} → statem
 sample-fixed-hamming-weight-ternary-values-to-spec =
     tie.close
     (tie.spec (λ c κs. search needs) (λ c κs. search needs) (λ c. search weight-refused) (λ c κs. search needs) (λ c. search needs)
-    (λ c. search all-signs) (λ c κs. search needs) (λ c κs. (search weight-light, search weight-there)) (λ c. search needs)
+    (λ c. search all-signs) (λ c κs. search needs) (λ c κs. (search weight-light, search weight-limited, search weight-there)) (λ c. search needs)
     (λ c. search (signs-draw, holds-residue)))

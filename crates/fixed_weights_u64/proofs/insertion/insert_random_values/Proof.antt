@@ -9,16 +9,17 @@ use Rattle.fixed_weights_u64.proofs.insertion.insert_random_values.Stat
 use Rattle.fixed_weights_u64.proofs.insertion.insert_random_values.Tie as tie
 
 abbrev Inv-loop : tie.InvT-loop
-Inv-loop output₀ values words place n fill first second split i₀ next₀ output i next =
-    Inserted 0 values words n first second split i₀ place (getD values fill 0) i next output
+Inv-loop output₀ values words place n filling first second split i₀ from next₀ output i next =
+    Inserted 0 values from n first second split i₀ (getD values filling 0) i next output
 
 abbrev μ-loop : tie.MeasureT-loop
-μ-loop output₀ values words place n fill first second split i₀ next₀ output i next = n - i
+μ-loop output₀ values words place n filling first second split i₀ from next₀ output i next = n - i
 
 pub insert-random-values-spec : {M : Type 1} → statement M
 insert-random-values-spec =
     tie.close
-    (tie.spec Inv-loop μ-loop (λ c. omega arith) (λ c κs. search needs) (λ c. omega arith) (λ c. search plan-start) (λ c. omega arith)
-    (λ c κs. search needs) (λ c. search needs) (λ c κs. search needs) (λ c κs. (search insert-index, search insert-place, search plan-code))
-    (λ c. omega arith) (λ c. omega arith) (λ c. search inserted-next) (λ c. search needs) (λ c κs. search needs) (λ c κs. search needs) (λ c. cc)
-    (λ c. search plan-short) (λ c κs. search needs) (λ c. cc) (λ c. search plan-done))
+    (tie.spec Inv-loop μ-loop (λ c. omega arith) (λ c κs. search needs) (λ c. omega arith) (λ c. omega arith) (λ c. search needs) (λ c. search needs)
+    (λ c. search needs) (λ c. search plan-start) (λ c. omega arith) (λ c. omega arith) (λ c. omega arith) (λ c κs. search needs) (λ c. search needs)
+    (λ c κs. search needs) (λ c κs. (search insert-index, search insert-place, search plan-code)) (λ c. omega arith) (λ c. omega arith)
+    (λ c. search inserted-next) (λ c. search needs) (λ c κs. search needs) (λ c κs. search needs) (λ c. cc) (λ c. search plan-short)
+    (λ c. omega arith) (λ c κs. search needs) (λ c. cc) (λ c. search plan-done))
