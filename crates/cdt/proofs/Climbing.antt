@@ -1,10 +1,10 @@
 -- The search of a cumulative table: up from a place that is not past the magnitude, until the next bound is above the word.
-use mathlib.Core.Path.{_≡_, refl, ap, _∙_}
+use mathlib.Core.Path.{_≡_, refl, sym, ap, _∙_}
 use mathlib.Core.Logic.{⊎-elim}
 use mathlib.Core.Bool.{Bool, true, false, cond}
 use mathlib.Core.List.{List}
 use Prim.Native.Nat.{ℕ, zero, suc, _+_, _-_, _*_, _/_, _%_, _^_, _<_, _≤_}
-use native.Mathlib.Nat.{add-comm, div-add-mod', eq-or-lt-of-le}
+use native.Mathlib.Nat.{add-comm, add-zero, div-add-mod', eq-or-lt-of-le}
 use native.Mathlib.Numerals.{add-one}
 use native.Mathlib.Omega.{arith}
 use lib.Dec.{T, leb, ltb, eqb}
@@ -13,15 +13,15 @@ use lib.Seq.{drop-cons, getD-take, getD-drop, getD-set-same, getD-set-other}
 use lib.IntN.{ℤ, pos}
 use lib.Signed.{mag}
 use mir.Syntax.{w64}
-use mir.Val.{Fits, toZ, ofZ}
+use mir.Val.{Fits, boolByte, toZ, ofZ}
 use mir.Facts.{toZ-ofZ}
 use borrow.Author.Needs.{sfits-of}
-use borrow.Author.Tests.{leb-true, leb-false, ltb-true, ltb-false, lt-ltb, le-ltb}
+use borrow.Author.Tests.{leb-true, leb-false, ltb-true, ltb-false, lt-ltb, le-ltb, le-leb, lt-leb}
 use Rattle.distr.specs.Encoding.{encodeWith}
 use Rattle.distr.specs.Gaussian.{cumulativeTable, magnitude, withSign, cumulativeValue}
 use Rattle.distr.proofs.Rising.{Rising, is-rising, Largest, largest, rises}
 use Rattle.cdt.specs.declared.index.Sampled.{Sampled}
-use Rattle.cdt.specs.Guided.{intervalEnds, climbed, guideAt, sampledBy}
+use Rattle.cdt.specs.Guided.{intervalEnds, climbed, guideAt, firstStep, sampledBy}
 
 -- a place that is not the last: the search stops there, or goes on from the next
 pub climb-stop : (ends : List ℕ) (word at : ℕ) → at < length ends → word < getD ends at 0 → climbed (drop at ends) word at ≡ at
@@ -37,6 +37,47 @@ climb-on ends word at h l = rw (drop-cons ends at 0 h, le-ltb word (getD ends at
 pub climb-end : (ends : List ℕ) (word at : ℕ) → length ends ≤ at → climbed (drop at ends) word at ≡ at
 unfolding climbed
 climb-end ends word at h = rw (drop-of-length-le ends {i = at} h)
+
+-- the first step, by its three ways
+module _ (ends : List ℕ) (word place : ℕ) where
+  pub step-few : length ends < 64 → place ≡ firstStep ends word place
+  step-few h = rw (lt-ltb (length ends) 64 h)
+
+  pub step-past : 64 ≤ length ends → length ends ≤ place → place ≡ firstStep ends word place
+  step-past m h = rw (le-ltb (length ends) 64 m, le-leb (length ends) place h)
+
+  pub step-fits : place < length ends → length ends * 8 < 2 ^ 63 → (b : Bool) → Fits w64 (place + boolByte b)
+  step-fits h room true = record { fits = omega arith }
+  step-fits h room false = record { fits = omega arith }
+
+  module _ (m : 64 ≤ length ends) (h : place < length ends) where
+    made : firstStep ends word place ≡ cond (leb (getD ends place 0) word) (place + 1) place
+    made = rw (le-ltb (length ends) 64 m, lt-leb (length ends) place h)
+
+    pub step-made : place + boolByte (leb (getD ends place 0) word) ≡ firstStep ends word place
+    step-made = added (leb (getD ends place 0) word) ∙ sym made
+      where
+        added : (b : Bool) → place + boolByte b ≡ cond b (place + 1) place
+        added true = refl
+        added false = add-zero place
+
+    on : climbed (drop (firstStep ends word place) ends) word (firstStep ends word place) ≡ climbed (drop place ends) word place
+    on = rw made (go (leb (getD ends place 0) word) refl)
+      where
+        go : (b : Bool) → leb (getD ends place 0) word ≡ b
+            → climbed (drop (cond b (place + 1) place) ends) word (cond b (place + 1) place) ≡ climbed (drop place ends) word place
+        go true t = rw (add-one place) (sym (climb-on ends word place h (leb-true (getD ends place 0) word t)))
+        go false t = refl
+
+  -- the search comes from there to where it comes from the place
+  pub step-same : climbed (drop (firstStep ends word place) ends) word (firstStep ends word place) ≡ climbed (drop place ends) word place
+  step-same = go (ltb (length ends) 64) refl (leb (length ends) place) refl
+    where
+      go : (b : Bool) → ltb (length ends) 64 ≡ b → (d : Bool) → leb (length ends) place ≡ d
+          → climbed (drop (firstStep ends word place) ends) word (firstStep ends word place) ≡ climbed (drop place ends) word place
+      go true t d u = rw t
+      go false t true u = rw (t, u)
+      go false t false u = on (ltb-false (length ends) 64 t) (leb-false (length ends) place u)
 
 -- the first k entries of a guide are in, and the search for the next goes on from `place`
 pub record Filling (ends guide : List ℕ) (place k : ℕ) : Type 0 where

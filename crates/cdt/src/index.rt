@@ -3,10 +3,13 @@
 ghost use mathlib.Core.Path.{_≡_};
 ghost use Prim.Native.Nat.{ℕ, _<_};
 ghost use lib.ListN.{getD, drop, replicate};
-ghost use Rattle.cdt.specs.Guided.{climbed, guideAt, sampledBy};
+ghost use Rattle.cdt.specs.Guided.{climbed, guideAt, firstStep, sampledBy};
 
 // Where the search of a word starts, by its highest eight bits.
 pub type Guide = [usize; 256];
+
+// Of so many ends and more a good part of the words meets one after the guide's entry.
+const MANY_ENDS: usize = 64;
 
 // A coefficient that no output has encoded yet.
 pub struct Sampled {
@@ -50,11 +53,26 @@ pub fn make_guide(ends: &[u64]) -> Guide
     guide
 }
 
+// Where a search goes on after the end at a place. Among many ends it is compared and not branched on, since a branch would be guessed wrong as
+// often as not; among few the place itself, since the guide's entry mostly is the magnitude.
+fn first_step(ends: &[u64], word: u64, place: usize) -> usize
+    ensures { λ r. ⌜ r ≡ firstStep (now (ends .entry)) word place ⌝ }
+{
+    if ends.len() < MANY_ENDS {
+        return place;
+    }
+    if ends.len() <= place {
+        return place;
+    }
+    place + (ends[place] <= word) as usize
+}
+
 // The coefficient of a word: its magnitude by the table, from the guide's entry on, and positive where the word is odd.
 pub fn sample_magnitude(ends: &[u64], guide: &Guide, word: u64) -> Sampled
     ensures { λ r. ⌜ r ≡ sampledBy (now (ends .entry)) (now (guide .entry)) word ⌝ }
 {
-    let start = guide[(word / 0x100_0000_0000_0000) as usize];
+    let guided = guide[(word / 0x100_0000_0000_0000) as usize];
+    let start = first_step(ends, word, guided);
     Sampled {
         positive: word % 2 == 1,
         magnitude: index_from(ends, word, start) as u64,
