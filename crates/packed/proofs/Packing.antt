@@ -1,9 +1,11 @@
 -- Filling an output word by word: the digits of many words, one after the other, and the values of the first of them.
 use mathlib.Core.Path.{_≡_, refl, sym, ap, ap₂, _∙_}
 use mathlib.Core.List.{List, [], _∷_, _++_, map, append-nil}
-use Prim.Native.Nat.{ℕ, zero, suc, _+_, _-_, _*_, _<_, _≤_}
-use native.Mathlib.Nat.{zero-mul, suc-mul, add-comm, le-of-lt, le-of-eq, le-antisymm, mul-le-mul-right, lt-of-mul-lt-mul-right}
+use Prim.Native.Nat.{ℕ, zero, suc, _+_, _-_, _*_, _/_, _^_, _<_, _≤_}
+use native.Mathlib.Nat.{zero-mul, suc-mul, add-comm, le-of-lt, le-of-eq, le-antisymm, mul-le-mul-right, lt-of-mul-lt-mul-right, div-le-self, div-mul-le-self, lt-div-mul-add}
 use native.Mathlib.Omega.{arith}
+use mir.Syntax.{w64}
+use mir.Val.{Fits}
 use lib.ListN.{length, getD, take, drop, length-append, length-drop, length-map}
 use lib.Seq.{paste, length-paste, take-append-add, drop-append-add, take-append-le, take-take, take-add}
 use lib.Seq.{drop-drop, take-at, drop-at, drop-cons, getD-drop, length-take-le, drop-length, take-nil, drop-nil}
@@ -88,6 +90,11 @@ from-front {A} room vs out at m count h k e f =
     take-append-le count (take m vs) (drop (0 + m) room) (rw (length-take-le m vs k) h) ∙ take-take count m vs h in
     f ∙ ap (λ (l : List A). take at out ++ l ++ drop (at + count) out) (ap (take count) e ∙ front)
 
+-- so many words more than a place are a place too
+pub end-fits : {A : Type 0} (words : List ℕ) (out : List A) (place each : ℕ) → place ≤ length words → length words * 4 < 2 ^ 63 → length out * 8 < 2 ^ 63
+    → Fits w64 (place + length out / each)
+end-fits words out place each h k l = record { fits = omega (arith, div-le-self (length out) each) }
+
 module _ {A : Type 0} (base each : ℕ) (z : A) (pairs : List A) (words : List ℕ) (place : ℕ) (out₀ : List A) where
   abbrev values : List A
   values = map (digitValue z pairs) (split base each (drop place words))
@@ -126,6 +133,20 @@ module _ {A : Type 0} (base each : ℕ) (z : A) (pairs : List A) (words : List �
       let p = s .after in
       let less : next - place < length words - place = lt-of-mul-lt-mul-right each (omega arith) in
       omega arith
+
+  -- the words that have room whole: before their end there is room for one more, and at it for no other
+  module _ {at next : ℕ} {out : List A} (s : Filled at next out) where
+    pub room-more : next < place + length out₀ / each → at + each ≤ length out₀
+    room-more h =
+        let p = s .after in
+        let turn : suc (next - place) ≤ length out₀ / each = omega arith in
+        omega (arith, s .whole, suc-mul (next - place) each, mul-le-mul-right each turn, div-mul-le-self (length out₀) each)
+
+    pub room-less : place + length out₀ / each ≤ next → length out₀ ≤ at + each
+    room-less h =
+        let p = s .after in
+        let all : length out₀ / each ≤ next - place = omega arith in
+        omega (arith, s .whole, mul-le-mul-right each all, lt-div-mul-add {a = length out₀} (s .cut .some))
 
   -- a word's digits, or the lowest of them, more
   filled-next : (count : ℕ) {at next : ℕ} {out out′ : List A} → at + count ≤ length out₀ → next < length words → count ≤ each

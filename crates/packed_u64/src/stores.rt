@@ -98,7 +98,7 @@ fn store_front(output: &mut [Out], at: usize, part: &[Out])
 }
 
 // Fills the output with what the digits from `place` on stand for, `each` of them a word. The words are enough; where the last one has
-// digits too many, they are stored aside.
+// digits too many, they are stored aside. The words stored whole are counted beforehand, so that a turn has one test and plain addresses.
 fn fill_digits(
     output: &mut [Out],
     pairs: &[Out],
@@ -112,9 +112,10 @@ fn fill_digits(
         ≡ digitValues zero (now (pairs .entry)) (take (length (now (output .entry))) (split base «each» (drop place (now (words .entry))))) ⌝ }
 {
     let n = output.len();
+    let end = place + n / each;
     let mut at = 0;
     let mut next = place;
-    while at + each <= n {
+    while next < end {
         let word = words[next];
         store_digits(output, at, pairs, base, each, word);
         at += each;
