@@ -8,7 +8,7 @@ use native.Mathlib.Nat.{add-zero, add-suc, add-assoc, zero-mul, one-mul, suc-mul
 use native.Mathlib.Nat.{not-suc-le-zero, le-of-suc-le-suc, le-of-eq, eq-or-lt-of-le, suc-ne-zero, suc-inj}
 use native.Mathlib.Omega.{arith}
 use borrow.Author.Tests.{eq-eqb, ne-eqb, lt-ltb, leb-true, leb-false, ltb-true, ltb-false}
-use lib.Dec.{T, leb, ltb, eqb, eqb→eq, leb·zero}
+use lib.Dec.{T, leb, ltb, eqb, eqb→eq}
 use lib.ListN.{length}
 use lib.Ieee.Fits.{and-l, and-r}
 use lib.IntN.{ℤ, pos, negsuc}
@@ -141,12 +141,6 @@ between (suc r) s t = ap (λ (x : ℕ). x + bit (leb s r && ltb r t)) (between r
     go true false p q = omega (arith, ltb-false r t q)
     go false true p q = omega (arith, leb-false s r p)
     go false false p q = omega (arith, leb-false s r p)
-
--- how many numbers below r are below t
-pub sum-below : (r t : ℕ) → t ≤ r → sum r (λ d. bit (ltb d t)) ≡ t
-sum-below r t h =
-    sum-ext r (λ d. bit (ltb d t)) (λ d. bit (leb 0 d && ltb d t)) (λ d k. ap (λ (b : Bool). bit (b && ltb d t)) (sym (leb·zero d)))
-    ∙ between r 0 t ∙ omega arith
 
 -- how many numbers below r are from s up to t
 pub sum-between : (r s t : ℕ) → s ≤ t → t ≤ r → sum r (λ d. bit (leb s d && ltb d t)) ≡ t - s

@@ -5,7 +5,7 @@ use mathlib.Core.List.{List, [], _∷_, _++_}
 use Prim.Native.Nat.{ℕ, zero, suc, _-_, _<_, _≤_}
 use native.Mathlib.Nat.{not-suc-le-zero}
 use native.Mathlib.Omega.{arith}
-use borrow.Author.Tests.{lt-ltb, le-ltb, ltb-false, ne-eqb}
+use borrow.Author.Tests.{le-ltb, ltb-false, ne-eqb}
 use lib.Dec.{ltb}
 use lib.ListN.{length, drop, replicate}
 use lib.IntN.{ℤ, pos}
@@ -77,17 +77,7 @@ module _ {A : Type 0} (write : List ℤ → List A) (count place n : ℕ) (out :
   settled-short short e z = rw z
 
 module _ {A : Type 0} (write : List ℤ → List A) (number : ℕ) (rules : List ℕ → Read (List ℤ)) (words : List ℕ) (place : ℕ) (out : List A) where
-  -- 22
-  pub read-past-end : length words < place → readDraw write number rules words place out ≡ record { number = 22; place = place; output = out }
-  unfolding judged firstOf
-  read-past-end h = rw (lt-ltb (length words) place h)
-
-  -- 6
-  pub read-too-long : place ≤ length words → 65536 < length out → readDraw write number rules words place out ≡ record { number = 6; place = place; output = out }
-  unfolding judged firstOf
-  read-too-long h k = rw (le-ltb (length words) place h, lt-ltb 65536 (length out) k)
-
-  -- neither: the draw's own number decides
+  -- neither 22 nor 6: the draw's own number decides
   passed : place ≤ length words → length out ≤ 65536
       → readDraw write number rules words place out
       ≡ judged (firstOf (number ∷ [])) place out (settled write (length words) place (length out) (rules (drop place words)))
@@ -117,23 +107,6 @@ module _ {A : Type 0} (write : List ℤ → List A) (number : ℕ) (rules : List
 
 -- the same of a draw by one rule
 module _ {A : Type 0} (write : List ℤ → List A) (number : ℕ) (rule : Rule) (words : List ℕ) (place : ℕ) (out : List A) where
-  pub rule-past-end : length words < place → ruleDraw write number rule words place out ≡ record { number = 22; place = place; output = out }
-  unfolding ruleDraw
-  rule-past-end = read-past-end write number (readBy rule) words place out
-
-  pub rule-too-long : place ≤ length words → 65536 < length out → ruleDraw write number rule words place out ≡ record { number = 6; place = place; output = out }
-  unfolding ruleDraw
-  rule-too-long = read-too-long write number (readBy rule) words place out
-
-  pub rule-own : place ≤ length words → length out ≤ 65536 → 0 < number → ruleDraw write number rule words place out ≡ record { number = number; place = place; output = out }
-  unfolding ruleDraw
-  rule-own = read-own write number (readBy rule) words place out
-
-  pub rule-settled : place ≤ length words → length out ≤ 65536 → number ≡ 0
-      → ruleDraw write number rule words place out ≡ settled write (length words) place (length out) (readBy rule (drop place words))
-  unfolding ruleDraw
-  rule-settled = read-settled write number (readBy rule) words place out
-
   pub rule-got : place ≤ length words → length out ≤ 65536 → number ≡ 0 → (cs : List ℤ) (rest : List ℕ) → readBy rule (drop place words) ≡ got cs rest
       → ruleDraw write number rule words place out ≡ record { number = 0; place = length words - length rest; output = write cs }
   unfolding ruleDraw

@@ -2,13 +2,10 @@
 use mathlib.Core.Path.{_≡_, refl, sym, ap, ap₂, _∙_}
 use mathlib.Core.List.{List, [], _∷_, _++_, map, append-nil}
 use Prim.Native.Nat.{ℕ, zero, suc, _+_, _<_, _≤_}
-use native.Mathlib.Nat.{zero-add}
 use native.Mathlib.Numerals.{add-one}
 use native.Mathlib.Omega.{arith}
 use lib.ListN.{length, getD, take, drop, set, replicate, length-append, length-take, length-drop, length-replicate, getD-replicate}
 use lib.Seq.{drop-cons, set-at, length-take-le, append-snoc, take-suc, drop-length, take-all}
-use lib.IntN.{ℤ, pos, negsuc}
-use Rattle.distr.specs.Encoding.{signedWith}
 
 module _ {A : Type 0} where
   -- the first i elements of xs are written
@@ -62,15 +59,6 @@ map-append f (x ∷ xs) ys = ap (λ l. f x ∷ l) (map-append f xs ys)
 pub map-ext : {A B : Type 0} (f g : A → B) → ((a : A) → f a ≡ g a) → (xs : List A) → map f xs ≡ map g xs
 map-ext f g h [] = refl
 map-ext f g h (x ∷ xs) = ap₂ (λ a as′. a ∷ as′) (h x) (map-ext f g h xs)
-
--- with −1 encoded as itself nothing changes
-pub signedWith-minus-one : (cs : List ℤ) → map (signedWith (negsuc 0)) cs ≡ cs
-signedWith-minus-one cs = map-ext (signedWith (negsuc 0)) (λ c. c) same cs ∙ map-id cs
-  where
-    same : (c : ℤ) → signedWith (negsuc 0) c ≡ c
-    same (pos m) = refl
-    same (negsuc zero) = refl
-    same (negsuc (suc m)) = ap (λ k. negsuc (suc k)) (zero-add m)
 
 pub map-set : {A B : Type 0} (f : A → B) (xs : List A) (i : ℕ) (a : A) → map f (set xs i a) ≡ set (map f xs) i (f a)
 map-set f [] i a = refl

@@ -4,22 +4,17 @@ use mathlib.Core.Bool.{Bool, cond, _&&_}
 use mathlib.Core.List.{List, [], _∷_, _++_, map}
 use lib.Dec.{ltb, eqb}
 use lib.ListN.{length, take, drop}
-use lib.IntN.{ℤ, pos, negsuc, _-ℤ_}
+use lib.IntN.{ℤ, pos, negsuc}
 
 -- "−m becomes modulus − m, zero stays 0."
 abbrev pub encode : ℕ → ℤ → ℕ
 encode modulus (pos m) = m
 encode modulus (negsuc m) = modulus - suc m
 
--- A coefficient by the caller's encoding of −1, as `minus_one` and `modulus_minus_one` have it in the Rust: `minus` is modulus − 1 for residues,
--- and −1 itself for signed numbers, so that −m is `minus` less m − 1.
+-- A coefficient by the caller's encoding of −1, as `modulus_minus_one` is in the Rust: `minus` is modulus − 1, so that −m is `minus` less m − 1.
 abbrev pub encodeWith : ℕ → ℤ → ℕ
 encodeWith minus (pos m) = m
 encodeWith minus (negsuc m) = minus - m
-
-abbrev pub signedWith : ℤ → ℤ → ℤ
-signedWith minus (pos m) = pos m
-signedWith minus (negsuc m) = minus -ℤ pos m
 
 -- "CRT row i, column c is at i × coefficients + c": a row of residues for each modulus.
 unfoldable pub rows : List ℕ → List ℤ → List ℕ

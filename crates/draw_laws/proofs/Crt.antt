@@ -6,17 +6,14 @@ use Prim.Native.Nat.{ℕ, _*_, _-_, _^_, _<_, _≤_}
 use native.Mathlib.Omega.{arith}
 use borrow.Author.Tests.{eqb-true, ltb-false, lt-ltb, le-ltb, eq-eqb, ne-eqb}
 use lib.Dec.{ltb, eqb}
-use lib.ListN.{length, drop, replicate}
-use lib.IntN.{ℤ, pos}
-use Rattle.distr.specs.declared.error_distribution.ErrorDistribution.the-variants.{CenteredBinomial}
-use Rattle.distr.specs.Rule.{readBy}
-use Rattle.distr.specs.CenteredBinomial.{centeredBinomial}
-use Rattle.distr.specs.Distribution.{Distr, error, Tables, onDeviation, errorRule, rule, coefficients}
+use lib.ListN.{length, drop}
+use lib.IntN.{ℤ}
+use Rattle.distr.specs.Distribution.{Distr, Tables, coefficients}
 use Rattle.distr.specs.Encoding.{encode, rows}
 use Rattle.distr.specs.Making.{refuse, largest}
 use Rattle.distr.specs.Numbers.{firstOf, stateNumbers, crtNumbers, servesCrt, shapeNumber, tooLong, moduliNumbers, tableNumber}
-use Rattle.distr.specs.Draw.{settled, judged, crtDraw, encodedDraw}
-use Rattle.draw_laws.proofs.Joining.{first-before, first-within, first-after, refused, settled-same}
+use Rattle.distr.specs.Draw.{settled, judged, crtDraw}
+use Rattle.draw_laws.proofs.Joining.{first-before, first-within, first-after, refused}
 
 -- The numbers of a CRT output and of its moduli.
 abbrev pub layoutNumbers : ℕ → ℕ → ℕ → List ℕ → List ℕ
@@ -117,22 +114,3 @@ module _ (d : Distr) (tables : Tables) (count : ℕ) (moduli words : List ℕ) (
 pub rows-one : (q : ℕ) (cs : List ℤ) → rows (q ∷ []) cs ≡ map (encode q) cs
 unfolding rows
 rows-one q cs = append-nil (map (encode q) cs)
-
-module _ (eta : ℕ) (tables : Tables) (q : ℕ) (words : List ℕ) (place : ℕ) (out : List ℕ) where
-  -- an encoded centered binomial is a CRT draw of one modulus
-  pub encoded-binomial-crt : (made : Bool)
-      → encodedDraw made (error (CenteredBinomial eta)) tables q words place out
-      ≡ crtDraw made (error (CenteredBinomial eta)) tables (length out) (q ∷ []) words place out
-  unfolding encodedDraw
-  encoded-binomial-crt made = refl
-
-  -- what it settles, with no number against it
-  pub encoded-binomial-settled : place ≤ length words → firstOf (layoutNumbers eta (length out) (length out) (q ∷ [])) ≡ 0 → 0 < length out
-      → encodedDraw true (error (CenteredBinomial eta)) tables q words place out
-      ≡ settled (map (encode q)) (length words) place (length out) (readBy (centeredBinomial eta (length out)) (drop place words))
-  unfolding servesCrt tableNumber onDeviation largest coefficients rule errorRule
-  encoded-binomial-settled here good h =
-      encoded-binomial-crt true
-      ∙ crt-settled (error (CenteredBinomial eta)) tables (length out) (q ∷ []) words place out refl here good refl h
-      ∙ settled-same (rows (q ∷ [])) (map (encode q)) words place out (readBy (centeredBinomial eta (length out)) (drop place words))
-      (λ cs rest e. rows-one q cs) (rows-one q (replicate (length out) (pos 0)))

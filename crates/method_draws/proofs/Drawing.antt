@@ -30,7 +30,7 @@ use Rattle.methods.specs.declared.SamplingMethod.the-variants.{Gaussian}
 use Rattle.methods.specs.Method.{magnitudeOf, lengthOf}
 use Rattle.secret_key_method.specs.Method.{prepared, preparing as preparingSecret}
 use Rattle.secret_key_method.proofs.Prepared.{prepared-magnitude as secret-magnitude, prepared-length as secret-length}
-use Rattle.error_method.specs.Method.{prepared as preparedError, preparing as preparingError}
+use Rattle.error_method.specs.Method.{prepared as preparedError}
 use Rattle.error_method.proofs.Prepared.{prepared-magnitude as error-magnitude, prepared-length as error-length}
 use Rattle.method_draws.specs.Drawing.{preparedMethod, preparing, methodDraw}
 
@@ -107,7 +107,3 @@ prepared-length (error d) n = error-length d n
 pub secret-preparing : (d : SecretKeyDistr) → preparingSecret d ≡ preparing (secret d)
 unfolding preparedMethod makingNumber
 secret-preparing d = refl
-
-pub error-preparing : (d : ErrorDistribution) → preparingError d ≡ preparing (error d)
-unfolding preparedMethod makingNumber
-error-preparing d = refl

@@ -1,9 +1,8 @@
 -- A request by its kind: what the kind selects draws as the request asks.
-use Prim.Native.Nat.{ℕ, _≤_}
+use Prim.Native.Nat.{ℕ}
 use mathlib.Core.Path.{_≡_, refl}
 use mathlib.Core.Bool.{Bool, true, false, cond}
 use mathlib.Core.List.{List}
-use borrow.Author.Tests.{le-leb}
 use Rattle.distr.specs.Distribution.{Distr}
 use Rattle.distr.specs.Draw.{Outcome, atOnce}
 use Rattle.distr.specs.Constants.{invalidSheet}
@@ -23,8 +22,3 @@ asked-draw {A} draw out kind a b e = rw e (go (knownKind kind) (kindDistr kind a
         ≡ cond b (atOnce d 0 out (draw d)) (record { number = invalidSheet; place = 0; output = out })
     go true d = drawn-of draw 0 out d
     go false d = unfold anyAtOnce in refl
-
--- The kinds that are known.
-pub known-kind : (kind : ℕ) → 1 ≤ kind → kind ≤ 9 → knownKind kind ≡ true
-unfolding knownKind
-known-kind kind from to = rw (le-leb 1 kind from, le-leb kind 9 to)

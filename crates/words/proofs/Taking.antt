@@ -1,11 +1,11 @@
 -- What a caller learns of the words from what the functions hand back.
 use mathlib.Core.Path.{_≡_, refl, ap, _∙_}
 use mathlib.Core.List.{List, [], _∷_}
-use Prim.Native.Nat.{ℕ, suc, _+_, _-_, _*_, _^_, _<_, _≤_}
+use Prim.Native.Nat.{ℕ, suc, _+_, _-_, _<_, _≤_}
 use native.Mathlib.Omega.{arith}
 use lib.ListN.{length, drop, length-drop}
 use lib.Seq.{drop-drop}
-use Rattle.distr.specs.Words.{Read, got, short, word, wide, choose}
+use Rattle.distr.specs.Words.{Read, got, short, word, choose}
 use Rattle.distr.proofs.Reading.{short-not-got, chose}
 use Rattle.words.specs.declared.Taken.the-variants.{Got, Short}
 use Rattle.words.specs.Reading.{taken}
@@ -31,12 +31,6 @@ unfolding word
 word-passes v [] rest e = absurd (short-not-got e)
 word-passes v (x ∷ xs) rest e = let same : got x xs ≡ got v rest = e in (1, omega arith, omega arith, cc)
 
-wide-passes : (v : ℕ) (xs rest : List ℕ) → wide xs ≡ got v rest → Passes xs rest
-unfolding wide
-wide-passes v [] rest e = absurd (short-not-got e)
-wide-passes v (x ∷ []) rest e = absurd (short-not-got e)
-wide-passes v (x ∷ y ∷ xs) rest e = let same : got (x + y * 2 ^ 32) xs ≡ got v rest = e in (2, omega arith, omega arith, cc)
-
 choice-passes : (k v : ℕ) (xs rest : List ℕ) → choose k xs ≡ got v rest → Passes xs rest
 choice-passes k v xs rest e = let c = chose k xs v rest e in (suc (c .passed), omega arith, c .there, c .left)
 
@@ -56,9 +50,6 @@ module _ (ws : List ℕ) (i v p : ℕ) where
 
   pub took-word : Got v p ≡ taken (length ws) (word (drop i ws)) → Took ws i (word (drop i ws)) v p
   took-word = took (word (drop i ws)) (λ w rest. word-passes w (drop i ws) rest)
-
-  pub took-wide : Got v p ≡ taken (length ws) (wide (drop i ws)) → Took ws i (wide (drop i ws)) v p
-  took-wide = took (wide (drop i ws)) (λ w rest. wide-passes w (drop i ws) rest)
 
   pub took-choice : (k : ℕ) → Got v p ≡ taken (length ws) (choose k (drop i ws)) → Took ws i (choose k (drop i ws)) v p
   took-choice k = took (choose k (drop i ws)) (λ w rest. choice-passes k w (drop i ws) rest)
