@@ -1,5 +1,6 @@
 pub mod MarkedCases
 pub mod Reading
+pub mod Skipping
 pub mod Writing
 pub mod Drawing
 pub mod BitSums

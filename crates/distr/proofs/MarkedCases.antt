@@ -2,14 +2,16 @@
 use mathlib.Core.Path.{_≡_, refl}
 use mathlib.Core.List.{map}
 use Rattle.distr.specs.Words.{mapRead, bindRead, many, word, wide, choose, chooseEach}
+use Rattle.distr.specs.Skipped.{passedOver, passedAfter, passedEach}
+use Rattle.distr.specs.Answers.{reported}
 use Rattle.distr.specs.Packed.{digits, split}
-use Rattle.distr.specs.UniformTernary.{acceptedBytes, bytes}
-use Rattle.distr.specs.Insertion.{countUp, inserted, insertEach}
+use Rattle.distr.specs.UniformTernary.{acceptedBytes, bytes, rejectedAmong, rejectedBytes}
+use Rattle.distr.specs.Insertion.{countUp, inserted, insertEach, signs, passedSigned}
 use Rattle.distr.specs.Blocks.{blocksOf}
 use Rattle.distr.specs.CenteredBinomial.{total}
 use Rattle.distr.specs.Gaussian.{magnitude}
 use Rattle.distr.specs.Encoding.{rows}
-use Rattle.distr.specs.Marked.{Case, marked, traps}
+use Rattle.distr.specs.Marked.{Case, marked, traps, SkipCase, thrownAway}
 
 pub marked-cases : map (λ (c : Case). c .given) marked ≡ map (λ (c : Case). c .stated) marked
 unfolding marked mapRead bindRead many word wide choose chooseEach digits split acceptedBytes bytes countUp inserted insertEach blocksOf total magnitude rows
@@ -19,3 +21,8 @@ marked-cases = refl
 pub traps-avoided : map (λ (c : Case). c .given) traps ≡ map (λ (c : Case). c .stated) traps
 unfolding traps mapRead bindRead many word wide choose chooseEach digits split acceptedBytes bytes countUp inserted insertEach blocksOf total magnitude rows
 traps-avoided = refl
+
+-- What document 02 [1] counts, worked out by hand, as a third.
+pub words-thrown-away : map (λ (c : SkipCase). c .counted) thrownAway ≡ map (λ (c : SkipCase). c .figures) thrownAway
+unfolding thrownAway mapRead word choose digits acceptedBytes countUp signs passedOver passedAfter passedEach passedSigned rejectedAmong rejectedBytes reported
+words-thrown-away = refl

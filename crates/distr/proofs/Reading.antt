@@ -10,6 +10,7 @@ use borrow.Author.Tests.{ltb-true, le-ltb, lt-leb}
 use lib.ListN.{length, getD, take, drop, drop-of-length-le}
 use lib.Seq.{drop-cons, getD-drop}
 use Rattle.distr.specs.Words.{Read, got, short, mapRead, bindRead, areWords, word, wide, choose, many}
+use Rattle.distr.specs.Skipped.{passedOver}
 
 -- a reading that is there or not, changed by f
 map-cond : {A B : Type 0} (f : A → B) (b : Bool) (a : A) (rest : List ℕ) → mapRead f (cond b (got a rest) short) ≡ cond b (got (f a) rest) short
@@ -20,6 +21,12 @@ map-cond f false a rest = refl
 -- a word that is missing is none that was read
 pub short-not-got : {A : Type 0} {a : A} {rest : List ℕ} → short ≡ got a rest → ⊥
 short-not-got e = let z : _≡_ {A = ℕ} 0 1 = cc in absurd (omega arith)
+
+-- what a changed reading gives was read, and changed
+pub map-got : {A B : Type 0} (f : A → B) (r : Read A) (b : B) (rest : List ℕ) → mapRead f r ≡ got b rest → (a : A) × (r ≡ got a rest) × (b ≡ f a)
+unfolding mapRead
+map-got f (got a left) b rest e = let same : got (f a) left ≡ got b rest = e in (a, cc, cc)
+map-got f short b rest e = absurd (short-not-got e)
 
 -- both of two tests
 pub and-left : (a b : Bool) → T (a && b) → T a
@@ -112,6 +119,7 @@ areWords-append (x ∷ xs) ys t u =
 -- a choice that succeeds passes over j words and takes the one after them
 pub record Chose (k : ℕ) (ws : List ℕ) (s : ℕ) (rest : List ℕ) : Type 0 where
   pub passed : ℕ
+  pub counted : passedOver k ws ≡ passed
   pub there : passed < length ws
   pub left : rest ≡ drop (suc passed) ws
   pub value : s ≡ getD ws passed 0 % k
@@ -123,7 +131,7 @@ positive zero w h = omega arith
 positive (suc k) w h = omega arith
 
 pub chose : (k : ℕ) (ws : List ℕ) (s : ℕ) (rest : List ℕ) → choose k ws ≡ got s rest → Chose k ws s rest
-unfolding choose
+unfolding choose passedOver
 chose k [] s rest e = absurd (short-not-got e)
 chose k (w ∷ ws) s rest e = go (ltb w (k * (2 ^ 32 / k))) refl e (chose k ws s rest)
   where
@@ -132,10 +140,10 @@ chose k (w ∷ ws) s rest e = go (ltb w (k * (2 ^ 32 / k))) refl e (chose k ws s
     go true t q later =
         let value : s ≡ w % k = cc in
         let below : w % k < k = mod-lt w {m = k} (positive k w (ltb-true w (k * (2 ^ 32 / k)) t)) in
-        record { passed = 0; there = omega arith; left = cc; value = value; below = omega arith }
+        record { passed = 0; counted = rw t; there = omega arith; left = cc; value = value; below = omega arith }
     go false t q later =
         let c = later q in
-        record { passed = suc (c .passed); there = suc-le-suc (c .there); left = c .left; value = c .value; below = c .below }
+        record { passed = suc (c .passed); counted = rw (t, c .counted); there = suc-le-suc (c .there); left = c .left; value = c .value; below = c .below }
 
 -- a word at hand: accepted, or passed over
 pub choose-accept : (k i : ℕ) (ws : List ℕ) → i < length ws → T (ltb (getD ws i 0) (k * (2 ^ 32 / k))) → choose k (drop i ws) ≡ got (getD ws i 0 % k) (drop (suc i) ws)
@@ -145,6 +153,16 @@ choose-accept k i ws h t = rw (drop-cons ws i 0 h, T-true (ltb (getD ws i 0) (k 
 pub choose-skip : (k i : ℕ) (ws : List ℕ) → i < length ws → T (leb (k * (2 ^ 32 / k)) (getD ws i 0)) → choose k (drop i ws) ≡ choose k (drop (suc i) ws)
 unfolding choose
 choose-skip k i ws h t = rw (drop-cons ws i 0 h, le-ltb (getD ws i 0) (k * (2 ^ 32 / k)) (leb→le (k * (2 ^ 32 / k)) (getD ws i 0) t))
+
+-- so many are passed over: none before a word that is accepted, one more before those after a word that is not
+pub passed-accept : (k i : ℕ) (ws : List ℕ) → i < length ws → T (ltb (getD ws i 0) (k * (2 ^ 32 / k))) → passedOver k (drop i ws) ≡ 0
+unfolding passedOver
+passed-accept k i ws h t = rw (drop-cons ws i 0 h, T-true (ltb (getD ws i 0) (k * (2 ^ 32 / k))) t)
+
+pub passed-skip : (k i : ℕ) (ws : List ℕ) → i < length ws → T (leb (k * (2 ^ 32 / k)) (getD ws i 0))
+    → passedOver k (drop i ws) ≡ suc (passedOver k (drop (suc i) ws))
+unfolding passedOver
+passed-skip k i ws h t = rw (drop-cons ws i 0 h, le-ltb (getD ws i 0) (k * (2 ^ 32 / k)) (leb→le (k * (2 ^ 32 / k)) (getD ws i 0) t))
 
 -- past the end there is nothing
 pub choose-end : (k i : ℕ) (ws : List ℕ) → length ws ≤ i → choose k (drop i ws) ≡ short

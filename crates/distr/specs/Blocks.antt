@@ -6,6 +6,7 @@ use lib.IntN.{ℤ, pos}
 use Rattle.distr.specs.declared.secret_key_distr.BlockOccupancy.{BlockOccupancy}
 use Rattle.distr.specs.declared.secret_key_distr.BlockOccupancy.the-variants.{AtMostOne, ExactlyOne}
 use Rattle.distr.specs.Words.{chooseEach}
+use Rattle.distr.specs.Skipped.{skippedWords, passedEach}
 use Rattle.distr.specs.Rule.{Rule}
 
 -- "A value below the block size, or below that plus 1 with `AtMostOne`."
@@ -26,4 +27,5 @@ blockBinary size occupancy n = record {
   ranges = replicate (n / size) (categories size occupancy);
   draws = chooseEach (replicate (n / size) (categories size occupancy));
   decode = blocksOf size;
+  skips = λ ws. skippedWords (passedEach (replicate (n / size) (categories size occupancy)) ws);
 }

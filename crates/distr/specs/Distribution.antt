@@ -10,6 +10,7 @@ use Rattle.distr.specs.declared.secret_key_distr.SecretKeyDistr.the-vari
 use Rattle.distr.specs.declared.error_distribution.ErrorDistribution.{ErrorDistribution}
 use Rattle.distr.specs.declared.error_distribution.ErrorDistribution.the-variants.{CenteredBinomial, Gaussian as ErrorGaussian}
 use Rattle.distr.specs.Words.{Read}
+use Rattle.distr.specs.Skipped.{Skipped, skippedWords}
 use Rattle.distr.specs.Rule.{Rule, readBy}
 use Rattle.distr.specs.Packed.{uniformBinary, sparseTernary}
 use Rattle.distr.specs.UniformTernary.{uniformTernary}
@@ -19,7 +20,7 @@ use Rattle.distr.specs.Blocks.{blockBinary}
 use Rattle.distr.specs.CenteredBinomial.{centeredBinomial}
 use Rattle.distr.specs.Constants.{cumulativeLimit}
 use Rattle.distr.specs.Gaussian.{support, cumulative}
-use Rattle.distr.specs.Layered.{Layers, layered}
+use Rattle.distr.specs.Layered.{Layers, layered, passedLayered}
 
 -- A distribution of either kind.
 pub data Distr : Type 0 where
@@ -80,3 +81,13 @@ gaussianRead deviation M tables n ws =
 unfoldable pub coefficients : Distr → ℕ → Tables → List ℕ → Read (List ℤ)
 coefficients d n tables ws =
     onDeviation d (λ deviation. gaussianRead deviation (support deviation) tables n ws) (readBy (rule d n (tables .bounds)) ws)
+
+-- 02 [1]: what is skipped while a Gaussian's coefficients are read.
+abbrev pub gaussianSkips : Float → ℕ → Tables → ℕ → List ℕ → Skipped
+gaussianSkips deviation M tables n ws =
+    cond (leb M cumulativeLimit) (cumulative M (tables .bounds) n .skips ws) (skippedWords (passedLayered deviation (tables .layers) n ws))
+
+-- 02 [1]: "the number of skipped words and bytes in the rules of document 01 for that call", beside `coefficients`.
+unfoldable pub skipsOf : Distr → ℕ → Tables → List ℕ → Skipped
+skipsOf d n tables ws =
+    onDeviation d (λ deviation. gaussianSkips deviation (support deviation) tables n ws) (rule d n (tables .bounds) .skips ws)

@@ -11,7 +11,8 @@ use Rattle.distr.specs.declared.error_distribution.ErrorDistribution.the
 use Rattle.distr.specs.Constants.{outOfWords}
 use Rattle.distr.specs.Words.{Read, got, short}
 use Rattle.distr.specs.Rule.{Rule, readBy}
-use Rattle.distr.specs.Distribution.{Distr, secret, error, Tables, coefficients}
+use Rattle.distr.specs.Skipped.{Skipped, nothing}
+use Rattle.distr.specs.Distribution.{Distr, secret, error, Tables, coefficients, skipsOf}
 use Rattle.distr.specs.Encoding.{encode, rows}
 use Rattle.distr.specs.Making.{makingNumber}
 use Rattle.distr.specs.Numbers.{firstOf, pastEnd, tooLong, stateNumbers, signedNumbers, encodedNumbers, crtNumbers, servesCrt}
@@ -67,6 +68,11 @@ crtDraw made d tables coefficientCount moduli words place out =
     let numbers = stateNumbers (made && servesCrt d) (length words) place ++ crtNumbers d tables (length out) coefficientCount moduli in
     cond (eqb (length out) 0) (judged (firstOf numbers) place out (record { number = 0; place = place; output = out }))
     (drawn (rows moduli) numbers words place out coefficientCount (coefficients d coefficientCount tables))
+
+-- 02 [1]: what a CRT draw into n elements skips. Each coefficient is drawn once, so there is one sum and not one for each modulus; an empty output
+-- reads nothing.
+unfoldable pub crtSkips : Distr → ℕ → Tables → ℕ → List ℕ → Skipped
+crtSkips d coefficientCount tables n ws = cond (eqb n 0) nothing (skipsOf d coefficientCount tables ws)
 
 -- A draw of residues of one modulus.
 abbrev pub residueDraw : Bool → Distr → Tables → ℕ → List ℕ → ℕ → List ℕ → Outcome ℕ

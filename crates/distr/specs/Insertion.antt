@@ -6,6 +6,7 @@ use lib.Dec.{leb, eqb}
 use lib.ListN.{length, getD, set, replicate, drop}
 use lib.IntN.{ℤ, pos}
 use Rattle.distr.specs.Words.{Read, got, mapRead, bindRead, word, choose, chooseEach}
+use Rattle.distr.specs.Skipped.{skippedWords, passedOver, passedAfter, passedEach}
 use Rattle.distr.specs.Rule.{Rule}
 use Rattle.distr.specs.Packed.{digits, minusOne, signValue, signsAlone}
 
@@ -31,6 +32,7 @@ insertion fill values n = record {
   ranges = countUp (suc (n - length values)) (length values);
   draws = chooseEach (countUp (suc (n - length values)) (length values));
   decode = λ ss. insertEach values ss (replicate (n - length values) fill);
+  skips = λ ws. skippedWords (passedEach (countUp (suc (n - length values)) (length values)) ws);
 }
 
 -- "Fixed composition: the commonest value fills (ties: 0, then −1, then 1); the other two follow in that order."
@@ -59,6 +61,13 @@ chooseSigned (k ∷ ks) bits ws =
     bindRead (choose k rest) (λ s left.
     mapRead (λ ds. getD bs 0 0 ∷ s ∷ ds) (chooseSigned ks (drop 1 bs) left)))
 
+-- 02 [1]: what the choices of `chooseSigned` pass over; a word of signs is used, not skipped.
+unfoldable pub passedSigned : List ℕ → List ℕ → List ℕ → ℕ
+passedSigned [] bits ws = 0
+passedSigned (k ∷ ks) bits ws =
+    passedAfter (signs bits ws) (λ bs rest.
+    passedOver k rest + passedAfter (choose k rest) (λ s left. passedSigned ks (drop 1 bs) left))
+
 -- Each sign's value inserted at the choice that follows the sign.
 unfoldable pub insertSigned : List ℕ → List ℤ → List ℤ
 insertSigned [] xs = xs
@@ -77,6 +86,7 @@ signedInsertion h n = record {
   ranges = signBefore (countUp (suc (n - h)) h);
   draws = chooseSigned (countUp (suc (n - h)) h) [];
   decode = λ ds. insertSigned ds (replicate (n - h) (pos 0));
+  skips = λ ws. skippedWords (passedSigned (countUp (suc (n - h)) h) [] ws);
 }
 
 -- "With h = n only signs are read."

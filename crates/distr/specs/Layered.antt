@@ -8,6 +8,7 @@ use lib.IntN.{ℤ, pos}
 use lib.Ieee.{Float, binary64, mul, sub, add, div, neg, lt, le, eq, ofInt}
 use lib.Ieee.Scale.{finite}
 use Rattle.distr.specs.Words.{Read, got, short, mapRead, bindRead, word, choose, coin, chance, many}
+use Rattle.distr.specs.Skipped.{passedOver, passedAfter, passedMany}
 use Rattle.distr.specs.Thresholds.{threshold}
 use Rattle.distr.specs.Constants.{literal}
 use Rattle.distr.specs.Gaussian.{rising, withSign}
@@ -152,3 +153,28 @@ layeredOne deviation t ws = tries (length ws) deviation t ws
 
 abbrev pub layered : Float → Layers → ℕ → List ℕ → Read (List ℤ)
 layered deviation t n ws = many (layeredOne deviation t) n ws
+
+-- 02 [1], "a word that a choice inside such a try passes over": the layer's choice and the magnitude's. The coin's word and those of the judging are
+-- used, not skipped.
+unfoldable pub passedTry : Layers → List ℕ → ℕ
+passedTry t ws =
+    passedOver (layerCount t) ws + passedAfter (choose (layerCount t) ws) (λ layer ws₁.
+    passedAfter (coin ws₁) (λ positive ws₂. passedOver (suc (getD (t .endpoints) (layer + 1) 0)) ws₂))
+
+-- What the tries after a rejected one pass over; no try follows one that is kept or lacks a word.
+unfoldable pub passedElse : Read Tried → (List ℕ → ℕ) → ℕ
+passedElse short again = 0
+passedElse (got (kept v) rest) again = 0
+passedElse (got rejected rest) again = again rest
+
+-- What the tries of `tries` pass over: "rejected tries of the layered Gaussian are not skipped words".
+unfoldable pub passedTries : ℕ → Float → Layers → List ℕ → ℕ
+passedTries zero deviation t ws = 0
+passedTries (suc most) deviation t ws = passedTry t ws + passedElse (try deviation t ws) (λ rest. passedTries most deviation t rest)
+
+-- What a coefficient passes over, and n of them.
+abbrev pub passedOne : Float → Layers → List ℕ → ℕ
+passedOne deviation t ws = passedTries (length ws) deviation t ws
+
+abbrev pub passedLayered : Float → Layers → ℕ → List ℕ → ℕ
+passedLayered deviation t n ws = passedMany (layeredOne deviation t) (passedOne deviation t) n ws

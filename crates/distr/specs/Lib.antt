@@ -1,7 +1,8 @@
--- Document 01 as definitions, in its order. What a reader must believe stands in these files.
+-- Document 01 as definitions, in its order, each request of document 02 beside what it speaks of. What a reader must believe stands in these files.
 pub mod Constants
-pub mod Answers
 pub mod Words
+pub mod Skipped
+pub mod Answers
 pub mod Rule
 pub mod Packed
 pub mod UniformTernary

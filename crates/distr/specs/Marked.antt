@@ -5,10 +5,12 @@ use lib.IntN.{ℤ, pos, negsuc}
 use Rattle.distr.specs.declared.secret_key_distr.BlockOccupancy.the-variants.{ExactlyOne}
 use lib.ListN.{replicate}
 use Rattle.distr.specs.Words.{Read, got, short, mapRead, choose}
+use Rattle.distr.specs.Skipped.{Skipped, nothing}
+use Rattle.distr.specs.Answers.{reported}
 use Rattle.distr.specs.Rule.{readBy}
 use Rattle.distr.specs.Packed.{uniformBinary, minusOne}
 use Rattle.distr.specs.UniformTernary.{uniformTernary}
-use Rattle.distr.specs.Insertion.{fixedComposition, fixedBinaryWeight}
+use Rattle.distr.specs.Insertion.{fixedComposition, fixedBinaryWeight, fixedTernaryWeight}
 use Rattle.distr.specs.Blocks.{blockBinary}
 use Rattle.distr.specs.CenteredBinomial.{centeredBinomial}
 use Rattle.distr.specs.Gaussian.{cumulativeValue, cumulative}
@@ -75,4 +77,32 @@ traps =
     -- composition ties to the last: with one of each, 0 fills, −1 and then 1 are inserted; with two −1 and two 1, −1 fills
     ∷ record { given = readBy (fixedComposition 1 1 3) (0 ∷ 0 ∷ []); stated = got (pos 1 ∷ pos 0 ∷ minusOne ∷ []) [] }
     ∷ record { given = readBy (fixedComposition 2 2 4) (0 ∷ 0 ∷ []); stated = got (pos 1 ∷ minusOne ∷ minusOne ∷ pos 1 ∷ []) [] }
+    ∷ []
+
+-- Document 02 [1], worked out from the rules by hand: what the definitions count, and the figures.
+pub record SkipCase : Type 0 where
+  pub counted : Skipped
+  pub figures : Skipped
+
+unfoldable pub thrownAway : List SkipCase
+thrownAway =
+    -- a choice among 3 passes over 4294967295, which is 3 × ⌊2^32/3⌋, and takes 4
+    record { counted = fixedBinaryWeight 1 3 .skips (4294967295 ∷ 4 ∷ []); figures = record { words = 1; bytes = 0 } }
+    -- the same word is taken by the choice among 2 and passed over twice by the choice among 3 after it
+    ∷ record { counted = fixedComposition 1 1 3 .skips (4294967295 ∷ 4294967295 ∷ 4294967295 ∷ 0 ∷ []); figures = record { words = 2; bytes = 0 } }
+    -- the word of signs is used, not skipped: 4294967295 gives the sign, the next one is passed over, and 0 is taken
+    ∷ record { counted = fixedTernaryWeight 1 3 .skips (4294967295 ∷ 4294967295 ∷ 0 ∷ []); figures = record { words = 1; bytes = 0 } }
+    -- with h = n only signs are read
+    ∷ record { counted = fixedTernaryWeight 3 3 .skips (4294967295 ∷ []); figures = nothing }
+    -- a choice for each of two blocks
+    ∷ record { counted = blockBinary 3 ExactlyOne 6 .skips (4294967295 ∷ 0 ∷ 4294967295 ∷ 1 ∷ []); figures = record { words = 2; bytes = 0 } }
+    -- bytes 243, 5, 255, 0, one of them wanted: 243 is rejected, and 255 after the accepted 5 is not looked at
+    ∷ record { counted = uniformTernary 5 .skips (0x00FF05F3 ∷ []); figures = record { words = 0; bytes = 1 } }
+    -- two wanted: 243 and 255 are rejected
+    ∷ record { counted = uniformTernary 6 .skips (0x00FF05F3 ∷ []); figures = record { words = 0; bytes = 2 } }
+    -- a word all rejected, and one more
+    ∷ record { counted = uniformTernary 5 .skips (0xFFFFFFFF ∷ 0xF3F300F4 ∷ []); figures = record { words = 0; bytes = 5 } }
+    -- a refused call reports zeros, 23 included; a byte sum above 2^64−1 is given as 2^64−1
+    ∷ record { counted = reported 23 (record { words = 3; bytes = 2 }); figures = nothing }
+    ∷ record { counted = reported 0 (record { words = 3; bytes = 2 ^ 64 }); figures = record { words = 3; bytes = 2 ^ 64 - 1 } }
     ∷ []

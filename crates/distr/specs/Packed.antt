@@ -6,6 +6,7 @@ use lib.Dec.{ltb, eqb}
 use lib.ListN.{take, replicate}
 use lib.IntN.{ℤ, pos, negsuc}
 use Rattle.distr.specs.Words.{mapRead, many, word}
+use Rattle.distr.specs.Skipped.{nothing}
 use Rattle.distr.specs.Rule.{Rule}
 
 -- The lowest `size` digits of x in a base, lowest first: bits, two-bit groups, bytes and base-3 digits.
@@ -24,6 +25,7 @@ packed base each m n value = record {
   ranges = replicate n base;
   draws = λ ws. mapRead (λ xs. take n (split base each xs)) (many word m ws);
   decode = map value;
+  skips = λ ws. nothing;
 }
 
 abbrev pub minusOne : ℤ

@@ -6,6 +6,7 @@ use lib.Dec.{ltb, eqb}
 use lib.ListN.{take, length, replicate}
 use lib.IntN.{ℤ, pos}
 use Rattle.distr.specs.Words.{Read, got, short, mapRead}
+use Rattle.distr.specs.Skipped.{skippedBytes}
 use Rattle.distr.specs.Rule.{Rule}
 use Rattle.distr.specs.Packed.{digits, split, minusOne}
 
@@ -24,6 +25,20 @@ bytes (w ∷ ws) (suc m) =
     let found = acceptedBytes (digits 256 4 w) in
     mapRead (λ rest. take (suc m) found ++ rest) (bytes ws (suc m - length found))
 
+-- 02 [1], "each byte rejected in uniform ternary": those among the given bytes, up to the m-th accepted one; the bytes after it are not looked at.
+unfoldable pub rejectedAmong : List ℕ → ℕ → ℕ
+rejectedAmong [] m = 0
+rejectedAmong (b ∷ bs) zero = 0
+rejectedAmong (b ∷ bs) (suc m) = cond (ltb b 243) (rejectedAmong bs m) (suc (rejectedAmong bs (suc m)))
+
+-- Those that `bytes` rejects while it reads m accepted ones, word after word.
+unfoldable pub rejectedBytes : List ℕ → ℕ → ℕ
+rejectedBytes [] m = 0
+rejectedBytes (w ∷ ws) zero = 0
+rejectedBytes (w ∷ ws) (suc m) =
+    let found = digits 256 4 w in
+    rejectedAmong found (suc m) + rejectedBytes ws (suc m - length (acceptedBytes found))
+
 -- "0, 1, 2 giving −1, 0, 1."
 abbrev pub tritValue : ℕ → ℤ
 tritValue t = cond (eqb t 0) minusOne (pos (t - 1))
@@ -34,4 +49,5 @@ uniformTernary n = record {
   ranges = replicate ((n + 4) / 5) 243;
   draws = λ ws. bytes ws ((n + 4) / 5);
   decode = λ ds. map tritValue (take n (split 3 5 ds));
+  skips = λ ws. skippedBytes (rejectedBytes ws ((n + 4) / 5));
 }

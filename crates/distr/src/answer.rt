@@ -1,23 +1,42 @@
-// What a draw hands back beside its output: the number (0 is success) and the place in the words. Every answer is made by one of the two
-// functions below.
+// What a draw hands back beside its output: the number (0 is success), the place in the words, and how many words its choices passed over and
+// how many bytes uniform ternary rejected. Every answer is made by one of the three functions below.
 ghost use mathlib.Core.Path.{_≡_};
-ghost use Rattle.distr.specs.Answers.{refusal, success};
+ghost use Rattle.distr.specs.Answers.{refusal, success, successAfter};
 
 pub struct Answer {
     pub number: u32,
     pub place: usize,
+    pub skipped_words: u64,
+    pub skipped_bytes: u64,
 }
 
-// A refused draw: its number, and the place as it was.
+// A refused draw: its number, and the place as it was. It reports nothing skipped.
 pub fn refused(number: u32, place: usize) -> Answer
     ensures { λ r. ⌜ r ≡ refusal number place ⌝ }
 {
-    Answer { number, place }
+    Answer {
+        number,
+        place,
+        skipped_words: 0,
+        skipped_bytes: 0,
+    }
 }
 
-// A draw that succeeded: number 0 and the new place.
+// A draw that succeeded after skipping so many words and bytes: number 0 and the new place.
+pub fn succeeded_after(place: usize, skipped_words: u64, skipped_bytes: u64) -> Answer
+    ensures { λ r. ⌜ r ≡ successAfter place (record { words = «skipped_words»; bytes = «skipped_bytes» }) ⌝ }
+{
+    Answer {
+        number: 0,
+        place,
+        skipped_words,
+        skipped_bytes,
+    }
+}
+
+// A draw that succeeded and skipped nothing.
 pub fn succeeded(place: usize) -> Answer
     ensures { λ r. ⌜ r ≡ success place ⌝ }
 {
-    Answer { number: 0, place }
+    succeeded_after(place, 0, 0)
 }

@@ -13,10 +13,13 @@ use Rattle.distr.specs.declared.answer.Answer.{Answer}
 use Rattle.distr.specs.Words.{got, short, mapRead}
 use Rattle.distr.specs.Rule.{Rule, constant, wideWords}
 use Rattle.distr.specs.Numbers.{firstOf}
+use Rattle.distr.specs.Skipped.{Skipped, nothing}
+use Rattle.distr.specs.Answers.{sums, reported}
 use Rattle.distr.specs.Draw.{Outcome, outcome, ruleDraw}
 use Rattle.distr.proofs.Reading.{wides, many-wide}
 use Rattle.distr.proofs.Writing.{map-map, map-replicate}
 use Rattle.distr.proofs.Drawing.{rule-got, rule-short}
+use Rattle.distr.proofs.Skipping.{reports-nothing}
 use Rattle.numbers.proofs.Refusing.{drawNumber, number-passed, rule-refused}
 use Rattle.numbers.specs.Answering.{wideRead, wideRule, numberOf, answerBy, answerOf}
 use Rattle.numbers.proofs.WideNumbers.{by, draw-low, number-by, answer-enough}
@@ -116,3 +119,8 @@ module _ {A : Type 0} (write : List ℤ → List A) (f : ℤ → A) (each : (cs 
         let all : final ≡ map pick (wides n ws) = cc in
         by-answer
         (rw (z, r) (all ∙ map-wides pick (λ w. f (value w)) same n ws (λ i. rw (getD-drop place words i 0) (bounded (place + i)))))
+
+-- the answer of a draw that skips nothing says so, whatever its number
+pub answer-reports : (own : ℕ) (reads : Bool) (count place n : ℕ) {s : Skipped} {a : Answer} → a ≡ answerOf own reads count place n → s ≡ nothing
+    → sums a ≡ reported (a .number) s
+answer-reports own reads count place n {s} {a} e none = rw none (reports-nothing a (rw e))

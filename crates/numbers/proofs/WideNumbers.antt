@@ -7,6 +7,7 @@ use native.Mathlib.Omega.{arith}
 use borrow.Author.Tests.{ltb-false, lt-ltb, le-ltb, ne-eqb}
 use lib.Dec.{ltb, lit<}
 use Rattle.distr.specs.declared.answer.Answer.{Answer}
+use Rattle.distr.specs.Answers.{success, refusal}
 use Rattle.distr.specs.Making.{refuse}
 use Rattle.distr.specs.Numbers.{firstOf, pastEnd, tooLong}
 use Rattle.distr.proofs.Drawing.{first-joined}
@@ -35,22 +36,22 @@ module _ (own : ℕ) (reads : Bool) (count place n : ℕ) where
   number-by k lacking e h = rw (e, ← h) (first-joined (pastEnd count place ∷ tooLong n ∷ own ∷ []) (refuse (reads && ltb (count - place) (2 * n)) 23 ∷ []))
 
   -- a number that is not 0 is the answer's
-  pub answer-refused : (k : ℕ) → k ≡ drawNumber count place n own → (k ≡ 0 → ⊥) → record { number = k; place = place } ≡ answerOf own reads count place n
+  pub answer-refused : (k : ℕ) → k ≡ drawNumber count place n own → (k ≡ 0 → ⊥) → refusal k place ≡ answerOf own reads count place n
   unfolding firstOf
   answer-refused zero e z = absurd (z refl)
   answer-refused (suc k) e z = rw (← number-by (suc k) _ e refl, ne-eqb (suc k) 0 z)
 
   -- without one: nothing to read, too few words, or as many as are needed
   module _ (none : 0 ≡ drawNumber count place n own) where
-    pub answer-constant : reads ≡ false → record { number = 0; place = place } ≡ answerOf own reads count place n
+    pub answer-constant : reads ≡ false → success place ≡ answerOf own reads count place n
     unfolding firstOf
     answer-constant r = rw (← number-by 0 false none (rw r), r)
 
-    pub answer-short : reads ≡ true → count - place < 2 * n → record { number = 23; place = place } ≡ answerOf own reads count place n
+    pub answer-short : reads ≡ true → count - place < 2 * n → refusal 23 place ≡ answerOf own reads count place n
     unfolding firstOf
     answer-short r h = rw (← number-by 0 true none (rw (r, lt-ltb (count - place) (2 * n) h)))
 
-    pub answer-read : reads ≡ true → 2 * n ≤ count - place → record { number = 0; place = place + 2 * n } ≡ answerOf own reads count place n
+    pub answer-read : reads ≡ true → 2 * n ≤ count - place → success (place + 2 * n) ≡ answerOf own reads count place n
     unfolding firstOf
     answer-read r h = rw (← number-by 0 false none (rw (r, le-ltb (count - place) (2 * n) h)), r)
 

@@ -25,9 +25,10 @@ unfoldable pub numberOf : ℕ → Bool → ℕ → ℕ → ℕ → ℕ
 numberOf own reads count place n =
     firstOf (pastEnd count place ∷ tooLong n ∷ own ∷ refuse (reads && ltb (count - place) (2 * n)) outOfWords ∷ [])
 
--- The answer with a number: the place moves where words were read.
+-- The answer with a number: the place moves where words were read. Such a draw skips nothing.
 abbrev pub answerBy : Bool → ℕ → ℕ → ℕ → Answer
-answerBy reads place n number = record { number = number; place = cond (eqb number 0 && reads) (place + 2 * n) place }
+answerBy reads place n number =
+    record { number = number; place = cond (eqb number 0 && reads) (place + 2 * n) place; «skipped_words» = 0; «skipped_bytes» = 0 }
 
 abbrev pub answerOf : ℕ → Bool → ℕ → ℕ → ℕ → Answer
 answerOf own reads count place n = answerBy reads place n (numberOf own reads count place n)

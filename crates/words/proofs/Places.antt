@@ -25,10 +25,10 @@ wide-few (w ∷ x ∷ ws) h = absurd (omega arith)
 
 -- what a threshold says of the 64-bit word that was taken
 abbrev pub verdict : ℕ → Taken → Told
-verdict below (Got v i) = cond (ltb v below) (Yes i) (No i)
+verdict below (Got v i s) = cond (ltb v below) (Yes i) (No i)
 verdict below Short = NotTold
 
-verdict-told : (count below : ℕ) (r : Read ℕ) → verdict below (taken count r) ≡ told count (mapRead (λ w. ltb w below) r)
+verdict-told : (count below : ℕ) (r : Read ℕ) → verdict below (taken count 0 r) ≡ told count (mapRead (λ w. ltb w below) r)
 unfolding taken told mapRead
 verdict-told count below (got v rest) = by-test (ltb v below)
   where
@@ -38,7 +38,7 @@ verdict-told count below (got v rest) = by-test (ltb v below)
 verdict-told count below short = refl
 
 -- a threshold that is not full reads a 64-bit word
-pub chance-told : (count below : ℕ) (ws : List ℕ) (t : Taken) → below < 2 ^ 64 → t ≡ taken count (wide ws)
+pub chance-told : (count below : ℕ) (ws : List ℕ) (t : Taken) → below < 2 ^ 64 → t ≡ taken count 0 (wide ws)
     → verdict below t ≡ told count (chance below ws)
 unfolding chance
 chance-told count below ws t h e = rw (ne-eqb below (2 ^ 64) (ne-of-lt h), e) (verdict-told count below (wide ws))
@@ -88,13 +88,13 @@ module _ (ws : List ℕ) where
   coin-missing i h = rw (word-missing i h)
 
   -- a reading that leaves the words from i on hands back the place i
-  pub taken-at : (i v : ℕ) (r : Read ℕ) → i ≤ length ws → r ≡ got v (drop i ws) → Got v i ≡ taken (length ws) r
+  pub taken-at : {s : ℕ} (i v : ℕ) (r : Read ℕ) → i ≤ length ws → r ≡ got v (drop i ws) → Got v i s ≡ taken (length ws) s r
   unfolding taken
   taken-at i v r h e = rw (e, place-of i h)
 
-  pub taken-none : (r : Read ℕ) → r ≡ short → Short ≡ taken (length ws) r
+  pub taken-none : (s : ℕ) (r : Read ℕ) → r ≡ short → Short ≡ taken (length ws) s r
   unfolding taken
-  taken-none r e = rw e
+  taken-none s r e = rw e
 
   pub told-yes : (i : ℕ) (r : Read Bool) → i ≤ length ws → r ≡ got true (drop i ws) → Yes i ≡ told (length ws) r
   unfolding told

@@ -10,10 +10,10 @@ use Rattle.words.specs.declared.Taken.the-variants.{Got, Short}
 use Rattle.words.specs.declared.Told.{Told}
 use Rattle.words.specs.declared.Told.the-variants.{Yes, No, Short as NotTold}
 
--- Of `count` words in all, the place is where those left begin.
-unfoldable pub taken : ℕ → Read ℕ → Taken
-taken count (got v rest) = Got v (count - length rest)
-taken count short = Short
+-- Of `count` words in all, the place is where those left begin; `skipped` words were passed over.
+unfoldable pub taken : ℕ → ℕ → Read ℕ → Taken
+taken count skipped (got v rest) = Got v (count - length rest) skipped
+taken count skipped short = Short
 
 unfoldable pub told : ℕ → Read Bool → Told
 told count (got true rest) = Yes (count - length rest)

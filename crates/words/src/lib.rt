@@ -1,15 +1,20 @@
 // An inner crate of the library primus_distr: lent words in place of a random source. Each function reads from a place of the words and
-// hands back the value with the place after it.
+// hands back the value with the place after it, and a choice also how many words it passed over.
 use distr::threshold::Threshold;
 ghost use mathlib.Core.Path.{_≡_};
 ghost use Prim.Native.Nat.{_+_, _*_, _%_, _^_, _<_};
 ghost use lib.ListN.{length, drop};
 ghost use Rattle.distr.specs.Words.{word, wide, choose, coin};
+ghost use Rattle.distr.specs.Skipped.{passedOver};
 ghost use Rattle.words.specs.Reading.{taken, told, toldChance};
 
-// A value and the place after the words that gave it.
+// A value, the place after the words that gave it, and how many words were passed over before them.
 pub enum Taken {
-    Got { value: u64, place: usize },
+    Got {
+        value: u64,
+        place: usize,
+        skipped: usize,
+    },
     Short,
 }
 
@@ -22,12 +27,16 @@ pub enum Told {
 
 // The next word.
 pub fn next_u32(words: &[u32], place: usize) -> Taken
-    ensures { λ r. ⌜ r ≡ taken (length (now (words .entry))) (word (drop place (now (words .entry)))) ⌝ }
+    ensures { λ r. ⌜ r ≡ taken (length (now (words .entry))) 0 (word (drop place (now (words .entry)))) ⌝ }
 {
     if place < words.len() {
         let value = words[place] as u64;
         let next = place + 1;
-        Taken::Got { value, place: next }
+        Taken::Got {
+            value,
+            place: next,
+            skipped: 0,
+        }
     } else {
         Taken::Short
     }
@@ -42,7 +51,7 @@ pub fn wide_word(low: u32, high: u32) -> u64
 
 // The next two words as one of 64 bits, low half first.
 pub fn next_u64(words: &[u32], place: usize) -> Taken
-    ensures { λ r. ⌜ r ≡ taken (length (now (words .entry))) (wide (drop place (now (words .entry)))) ⌝ }
+    ensures { λ r. ⌜ r ≡ taken (length (now (words .entry))) 0 (wide (drop place (now (words .entry)))) ⌝ }
 {
     let n = words.len();
     if n < 2 {
@@ -54,6 +63,7 @@ pub fn next_u64(words: &[u32], place: usize) -> Taken
     Taken::Got {
         value: wide_word(words[place], words[place + 1]),
         place: place + 2,
+        skipped: 0,
     }
 }
 
@@ -71,7 +81,7 @@ fn remainder(word: u32, k: u64) -> u32
 
 // A choice among k. A word w is skipped where its run of k, from w - w % k on, does not end at 2^32 or below: one division for each word.
 pub fn uniform_below(words: &[u32], place: usize, k: u64) -> Taken
-    ensures { λ r. ⌜ r ≡ taken (length (now (words .entry))) (choose k (drop place (now (words .entry)))) ⌝ }
+    ensures { λ r. ⌜ r ≡ taken (length (now (words .entry))) (passedOver k (drop place (now (words .entry)))) (choose k (drop place (now (words .entry)))) ⌝ }
 {
     if k == 0 {
         return Taken::Short;
@@ -86,9 +96,11 @@ pub fn uniform_below(words: &[u32], place: usize, k: u64) -> Taken
         let r = remainder(w, k);
         i += 1;
         if (w - r) as u64 <= last {
+            let skipped = i - place - 1;
             return Taken::Got {
                 value: r as u64,
                 place: i,
+                skipped,
             };
         }
     }
@@ -123,6 +135,7 @@ pub fn bernoulli(words: &[u32], place: usize, threshold: Threshold) -> Told
         Taken::Got {
             value,
             place: after,
+            skipped: _,
         } => {
             if value < below {
                 Told::Yes { place: after }

@@ -28,7 +28,7 @@ returns c =
 returns-2 : tie.Need-returns-2
 returns-2 c =
     let a = c .before .args in
-    taken-none (a .words .now) _ (word-missing (a .words .now) (a .place) (c .if1 .left))
+    taken-none (a .words .now) 0 _ (word-missing (a .words .now) (a .place) (c .if1 .left))
 
 pub next-u32-spec : {M : Type 1} → statement M
 next-u32-spec = tie.close (tie.spec mul-value shared-slice-read-value cast-value add-next returns returns-2)

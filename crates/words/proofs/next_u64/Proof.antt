@@ -10,12 +10,12 @@ use Rattle.words.proofs.next_u64.Tie as tie
 returns : tie.Need-returns
 returns c =
     let a = c .before .before .args in
-    taken-none (a .words .now) _ (wide-missing (a .words .now) (a .place) (omega arith))
+    taken-none (a .words .now) 0 _ (wide-missing (a .words .now) (a .place) (omega arith))
 
 returns-2 : tie.Need-returns-2
 returns-2 c =
     let a = c .before .before .before .args in
-    taken-none (a .words .now) _ (wide-missing (a .words .now) (a .place) (omega arith))
+    taken-none (a .words .now) 0 _ (wide-missing (a .words .now) (a .place) (omega arith))
 
 returns-3 : tie.Need-returns-3
 returns-3 c =
