@@ -4,11 +4,13 @@ use mathlib.Core.Bool.{Bool, true, false, not, cond}
 use mathlib.Core.List.{List}
 use Prim.Native.Nat.{ℕ, _^_, _<_}
 use native.Mathlib.Omega.{arith}
-use lib.Dec.{ltb, lit<}
+use lib.Dec.{ltb, eqb, lit<}
 use lib.IntN.{ℤ, pos}
 use mir.Val.{boolByte}
 use borrow.Author.Tests.{ne-eqb}
 use Rattle.distr.specs.declared.threshold.Threshold.{Threshold}
+use Rattle.distr.specs.Skipped.{nothing}
+use Rattle.distr.specs.Rule.{constant, wideWords}
 use Rattle.distr.specs.Thresholds.{binaryValue, binary}
 use Rattle.words.specs.Reading.{thresholdValue}
 use Rattle.numbers.specs.Answering.{wideRule, wideRead}
@@ -22,6 +24,14 @@ binary-rule t n h = go (t .full) refl
     go : (full : Bool) → t .full ≡ full → binary (thresholdValue t) n ≡ wideRule (not full) (pos 1) (binaryValue (t .below)) n
     go true e = rw e
     go false e = rw (e, ne-eqb (t .below) (2 ^ 64) (λ q. omega arith))
+
+-- it skips nothing
+pub binary-skips : (t n : ℕ) (ws : List ℕ) → binary t n .skips ws ≡ nothing
+binary-skips t n ws = go (eqb t (2 ^ 64))
+  where
+    go : (full : Bool) → cond full (constant (pos 1) n) (wideWords n (binaryValue t)) .skips ws ≡ nothing
+    go true = refl
+    go false = refl
 
 pub one-signed : (t w : ℕ) → pos (oneBelow t w) ≡ binaryValue t w
 unfolding oneBelow

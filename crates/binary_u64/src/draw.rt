@@ -9,9 +9,10 @@ use distr::refusal::OUT_OF_WORDS;
 use distr::threshold::Threshold;
 use numbers::wide_words;
 ghost use mathlib.Core.Path.{_≡_};
-ghost use lib.ListN.{length};
+ghost use lib.ListN.{length, drop};
 ghost use Rattle.distr.specs.Draw.{outcome, ruleDraw};
 ghost use Rattle.distr.specs.Thresholds.{binary};
+ghost use Rattle.distr.specs.Answers.{sums, reported};
 ghost use Rattle.words.specs.Reading.{thresholdValue};
 ghost use Rattle.output_u64.specs.Out.{held};
 
@@ -25,6 +26,7 @@ pub fn fill_binary(
 ) -> Answer
     ensures { λ r. ⌜ outcome r (now (output .exit)) ≡
         ruleDraw (held encoding) 0 (binary (thresholdValue threshold) (length (now (output .entry)))) (now (words .entry)) place (now (output .entry)) ⌝ }
+    ensures { λ r. ⌜ sums r ≡ reported (r .number) (binary (thresholdValue threshold) (length (now (output .entry))) .skips (drop place (now (words .entry)))) ⌝ }
 {
     let answer = wide_words::answer_of(0, !threshold.full, words.len(), place, output.len());
     if answer.number == OUT_OF_WORDS {

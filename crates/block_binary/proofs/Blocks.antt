@@ -11,13 +11,15 @@ use mir.Val.{boolByte, SFits}
 use borrow.Author.Tests.{ltb-true, ltb-false}
 use borrow.Rule.Slice.PartMut.{midOf, postOf, putMid, mid-len}
 use lib.Dec.{ltb}
-use lib.ListN.{length, take, drop, set, replicate, length-append, length-set, length-replicate}
+use lib.ListN.{length, take, drop, set, replicate, length-append, length-set, length-replicate, length-drop}
 use lib.Seq.{length-take-le, take-at, take-all, set-out}
 use lib.IntN.{ℤ, pos}
 use Rattle.distr.specs.Words.{Read, got, short, mapRead, bindRead, choose, chooseEach}
+use Rattle.distr.specs.Skipped.{passedOver, passedEach}
 use Rattle.distr.specs.Blocks.{block, blocksOf}
 use Rattle.distr.specs.Draw.{settled}
-use Rattle.distr.proofs.Reading.{map-read-twice, map-read-same}
+use Rattle.distr.proofs.Reading.{map-got, map-read-twice, map-read-same}
+use Rattle.distr.proofs.Skipping.{each-counts}
 use Rattle.distr.proofs.Drawing.{settled-got, settled-short}
 use Rattle.distr.proofs.Writing.{map-append, map-replicate, map-set}
 use Rattle.words.specs.declared.Taken.the-variants.{Got, Short}
@@ -165,10 +167,11 @@ module _ {A : Type 0} {write : List ℤ → List A} {z o : A} (holds : Holds wri
 
   module _ (h : start < n) where
     -- one choice, and its block filled in the output's part
-    pub turn-more : {s next : ℕ} {ys : List A} → Got s next ≡ taken (length words) (choose k (drop at words))
+    pub turn-more : {s next skipped : ℕ} {ys : List A}
+        → Got s next skipped ≡ taken (length words) (passedOver k (drop at words)) (choose k (drop at words))
         → ys ≡ set (replicate (length (midOf start (start + size - start) out)) z) s o → length (putMid start (start + size - start) out ys) ≡ length out
         → Turn write words size k n place (start + size) next (putMid start (start + size - start) out ys)
-    turn-more {s} {next} {ys} e f l =
+    turn-more {s} {next} {ys = ys} e f l =
         let m = some-left h in
         let chosen = took-choice words at s next k e in
         let lent : length (midOf start (start + size - start) out) ≡ size = omega (arith, mid-len start (start + size) out (turn-room h)) in
@@ -187,20 +190,33 @@ module _ {A : Type 0} {write : List ℤ → List A} {z o : A} (holds : Holds wri
         }
 
     -- a word is missing, and the output was cleared
-    pub turn-short : {out′ : List A} → Short ≡ taken (length words) (choose k (drop at words)) → out′ ≡ replicate (length out) z
+    pub turn-short : {out′ : List A} → Short ≡ taken (length words) (passedOver k (drop at words)) (choose k (drop at words))
+        → out′ ≡ replicate (length out) z
         → record { number = 23; place = place; output = out′ } ≡ settled write (length words) place n (wanted size k n (drop place words))
     turn-short {out′} e c =
         let m = some-left h in
         settled-short write (length words) place n out′ (wanted size k n (drop place words))
         (sym (t .reading) ∙ ap (λ (j : ℕ). onwards write size k (take start out) j (drop at words)) (m .1)
-        ∙ onwards-short write holds size k (take start out) (drop at words) (m .0) (taken-short (length words) (choose k (drop at words)) e))
+        ∙ onwards-short write holds size k (take start out) (drop at words) (m .0) (taken-short (length words) _ _ e))
         (c ∙ ap (λ (j : ℕ). replicate j z) (t .kept) ∙ sym (holds .zeros n))
 
   -- every block is filled
-  pub turn-end : 0 < size → n ≤ start
-      → record { number = 0; place = at; output = out } ≡ settled write (length words) place n (wanted size k n (drop place words))
-  turn-end p h =
-      settled-got write (length words) place n out (wanted size k n (drop place words)) (drop at words) (place-of words at (t .within))
-      (sym (t .reading) ∙ ap (λ (j : ℕ). onwards write size k (take start out) j (drop at words)) (none-left p h)
-      ∙ onwards-end write holds size k (take start out) (drop at words)
-      ∙ ap (λ (l : List A). got l (drop at words)) (take-all start out (omega (arith, t .kept))))
+  module _ (p : 0 < size) (h : n ≤ start) where
+    filled : mapRead write (wanted size k n (drop place words)) ≡ got out (drop at words)
+    filled =
+        sym (t .reading) ∙ ap (λ (j : ℕ). onwards write size k (take start out) j (drop at words)) (none-left p h)
+        ∙ onwards-end write holds size k (take start out) (drop at words)
+        ∙ ap (λ (l : List A). got l (drop at words)) (take-all start out (omega (arith, t .kept)))
+
+    pub turn-end : record { number = 0; place = at; output = out } ≡ settled write (length words) place n (wanted size k n (drop place words))
+    turn-end =
+        settled-got write (length words) place n out (wanted size k n (drop place words)) (drop at words) (place-of words at (t .within)) filled
+
+    -- a word was taken for each block, and those that the choices passed over
+    pub turn-counts : place ≤ length words → at ≡ place + n / size + passedEach (replicate (n / size) k) (drop place words)
+    turn-counts w =
+        let ks : List ℕ = replicate (n / size) k in
+        let blocks = map-got write (wanted size k n (drop place words)) out (drop at words) filled in
+        let choices = map-got (blocksOf size) (chooseEach ks (drop place words)) (blocks .0) (drop at words) (blocks .1) in
+        let all = each-counts ks (drop place words) (choices .0) (drop at words) (choices .1) in
+        omega (arith, length-replicate (n / size) k, length-drop place words, length-drop at words)

@@ -7,10 +7,13 @@ use native.Mathlib.Nat.{mod-zero, mod-eq-of-lt, div-add-mod'}
 use native.Mathlib.Omega.{arith}
 use borrow.Author.Tests.{eqb-true, eqb-false, not-false}
 use lib.Dec.{eqb}
-use lib.ListN.{length, drop}
+use lib.ListN.{length, drop, replicate}
 use lib.IntN.{ℤ}
 use Rattle.distr.specs.declared.secret_key_distr.BlockOccupancy.{BlockOccupancy}
 use Rattle.distr.specs.declared.secret_key_distr.BlockOccupancy.the-variants.{AtMostOne, ExactlyOne}
+use Rattle.distr.specs.declared.answer.Answer.{Answer}
+use Rattle.distr.specs.Answers.{sums, reported}
+use Rattle.distr.specs.Skipped.{skippedWords, passedEach}
 use Rattle.distr.specs.Blocks.{categories, blockBinary}
 use Rattle.distr.specs.Constants.{outputLimit}
 use Rattle.distr.specs.Numbers.{badBlocks}
@@ -64,10 +67,17 @@ module _ {A : Type 0} (write : List ℤ → List A) (words : List ℕ) (place si
   pub ready : k ≡ 0 → Accepted (length words) place (length out) size
   ready = accepted (length words) place (length out) size number
 
-  -- what the blocks give is the draw
-  pub drawn : {choices : ℕ} {o : Outcome A} → k ≡ 0 → choices ≡ categories size occupancy % 2 ^ 64
-      → o ≡ settled write (length words) place (length out) (wanted size choices (length out) (drop place words)) → o ≡ promised
-  drawn z e s =
-      s ∙ ap (λ (i : ℕ). settled write (length words) place (length out) (wanted size i (length out) (drop place words)))
-      (e ∙ choices-fit size occupancy (ready z .small))
-      ∙ rule-passed write (badBlocks size (length out)) words place out number (blockBinary size occupancy (length out)) z
+  module _ (z : k ≡ 0) {choices : ℕ} (counted : choices ≡ categories size occupancy % 2 ^ 64) where
+    same : choices ≡ categories size occupancy
+    same = counted ∙ choices-fit size occupancy (ready z .small)
+
+    -- what the blocks give is the draw, and what their choices pass over is what it skips
+    pub drawn : {o : Outcome A} → o ≡ settled write (length words) place (length out) (wanted size choices (length out) (drop place words))
+        → o ≡ promised
+    drawn s =
+        s ∙ ap (λ (i : ℕ). settled write (length words) place (length out) (wanted size i (length out) (drop place words))) same
+        ∙ rule-passed write (badBlocks size (length out)) words place out number (blockBinary size occupancy (length out)) z
+
+    pub passed : (r : Answer) → sums r ≡ reported (r .number) (skippedWords (passedEach (replicate (length out / size) choices) (drop place words)))
+        → sums r ≡ reported (r .number) (blockBinary size occupancy (length out) .skips (drop place words))
+    passed r s = rw same at s

@@ -5,7 +5,7 @@ use crate::clear;
 use crate::fill;
 use distr::answer::Answer;
 use distr::answer::refused;
-use distr::answer::succeeded;
+use distr::answer::succeeded_after;
 use distr::refusal::OUT_OF_WORDS;
 use words::Taken;
 ghost use mathlib.Core.Path.{_≡_};
@@ -14,6 +14,8 @@ ghost use lib.ListN.{length, drop, set, replicate};
 ghost use Rattle.distr.specs.Words.{mapRead, chooseEach};
 ghost use Rattle.distr.specs.Blocks.{blocksOf};
 ghost use Rattle.distr.specs.Draw.{outcome, settled};
+ghost use Rattle.distr.specs.Answers.{sums, reported};
+ghost use Rattle.distr.specs.Skipped.{skippedWords, passedEach};
 ghost use Rattle.output_u64.specs.Out.{zero, one, held};
 
 // The longest block that a loop of its own clears; a longer one is cleared by the library's call for that.
@@ -45,6 +47,7 @@ fn fill_block(block: &mut [Out], position: usize, nothing: usize)
 }
 
 // Fills the output block by block, each by one choice among `choices`. Where a word is missing the output is cleared.
+// Of the words taken one was used for each block; the choices passed over the others.
 pub(crate) fn draw_blocks(
     output: &mut [Out],
     encoding: Encoding,
@@ -58,14 +61,20 @@ pub(crate) fn draw_blocks(
         outcome r (now (output .exit))
         ≡ settled (held encoding) (length (now (words .entry))) place n
         (mapRead (blocksOf «block_size») (chooseEach (replicate (n / «block_size») choices) (drop place (now (words .entry)))))) ⌝ }
+    ensures { λ r. ⌜ sums r ≡ reported (r .number) (skippedWords (passedEach (replicate (length (now (output .entry)) / «block_size») choices) (drop place (now (words .entry))))) ⌝ }
 {
     let n = output.len();
     let nothing = block_size / 65537;
+    let used = place + n / block_size;
     let mut start = 0;
     let mut at = place;
     while start < n {
         match words::uniform_below(words, at, choices) {
-            Taken::Got { value, place: next } => {
+            Taken::Got {
+                value,
+                place: next,
+                skipped: _,
+            } => {
                 let end = start + block_size;
                 fill_block(&mut output[start..end], value as usize, nothing);
                 start = end;
@@ -77,5 +86,5 @@ pub(crate) fn draw_blocks(
             }
         }
     }
-    succeeded(at)
+    succeeded_after(at, (at - used) as u64, 0)
 }

@@ -7,10 +7,11 @@ use distr::answer::Answer;
 use distr::answer::refused;
 use distr::secret_key_distr::BlockOccupancy;
 ghost use mathlib.Core.Path.{_≡_};
-ghost use lib.ListN.{length};
+ghost use lib.ListN.{length, drop};
 ghost use Rattle.distr.specs.Blocks.{blockBinary};
 ghost use Rattle.distr.specs.Numbers.{badBlocks};
 ghost use Rattle.distr.specs.Draw.{outcome, ruleDraw};
+ghost use Rattle.distr.specs.Answers.{sums, reported};
 ghost use Rattle.output_u64.specs.Out.{held};
 
 // Block-binary values from the words at `place` on, one choice for each block.
@@ -25,6 +26,7 @@ pub fn sample_block_binary_values_to(
     ensures { λ r. ⌜ (let n = length (now (output .entry)) in outcome r (now (output .exit)) ≡ ruleDraw (held encoding)
         (badBlocks «block_size» n) (blockBinary «block_size» occupancy n)
         (now (words .entry)) place (now (output .entry))) ⌝ }
+    ensures { λ r. ⌜ sums r ≡ reported (r .number) (blockBinary «block_size» occupancy (length (now (output .entry))) .skips (drop place (now (words .entry)))) ⌝ }
 {
     let own = numbers::block_number(block_size, output.len());
     let number = numbers::draw_number(words.len(), place, output.len(), own);

@@ -5,7 +5,10 @@ use distr::answer::Answer;
 use distr::refusal::OUT_OF_WORDS;
 use numbers::wide_words;
 ghost use mathlib.Core.Path.{_≡_};
+ghost use lib.ListN.{length, drop};
 ghost use Rattle.distr.specs.Draw.{outcome};
+ghost use Rattle.distr.specs.Answers.{sums, reported};
+ghost use Rattle.distr.specs.Gaussian.{cumulative};
 ghost use Rattle.cdt.specs.Drawn.{cumulativeDraw};
 ghost use Rattle.output_u64.specs.Out.{held};
 
@@ -27,6 +30,7 @@ pub fn sample_cdt_to(
 ) -> Answer
     ensures { λ r. ⌜ outcome r (now (output .exit)) ≡
         cumulativeDraw (held encoding) «maximum_magnitude» (now (bounds .entry)) (now (words .entry)) place (now (output .entry)) ⌝ }
+    ensures { λ r. ⌜ sums r ≡ reported (r .number) (cumulative «maximum_magnitude» (now (bounds .entry)) (length (now (output .entry))) .skips (drop place (now (words .entry)))) ⌝ }
 {
     let own = table_number(maximum_magnitude, bounds);
     let answer = wide_words::answer_of(own, true, words.len(), place, output.len());

@@ -10,7 +10,10 @@ use distr::refusal::NEVER_MADE;
 use distr::refusal::OUT_OF_WORDS;
 use numbers::wide_words;
 ghost use mathlib.Core.Path.{_≡_};
+ghost use lib.ListN.{length, drop};
 ghost use Rattle.distr.specs.Draw.{outcome};
+ghost use Rattle.distr.specs.Answers.{sums, reported};
+ghost use Rattle.distr.specs.CenteredBinomial.{centeredBinomial};
 ghost use Rattle.centered_binomial.specs.Binomial.{binomialDraw};
 ghost use Rattle.output_u64.specs.Out.{held};
 
@@ -23,6 +26,7 @@ pub fn sample_binomial_to(
     place: usize,
 ) -> Answer
     ensures { λ r. ⌜ outcome r (now (output .exit)) ≡ binomialDraw (held encoding) parameters (now (words .entry)) place (now (output .entry)) ⌝ }
+    ensures { λ r. ⌜ sums r ≡ reported (r .number) (centeredBinomial (parameters .eta) (length (now (output .entry))) .skips (drop place (now (words .entry)))) ⌝ }
 {
     if !centered_binomial::is_made(parameters) {
         return refused(NEVER_MADE, place);

@@ -7,28 +7,27 @@ use native.Mathlib.Omega.{arith}
 use borrow.Author.Tests.{eq-eqb, ne-eqb}
 use lib.ListN.{length, replicate}
 use lib.IntN.{ℤ}
-use Rattle.distr.specs.declared.answer.Answer.{Answer}
 use Rattle.distr.specs.Words.{Read, got, short}
 use Rattle.distr.specs.Encoding.{encodeWith, rows}
 use Rattle.distr.specs.Numbers.{firstOf, moduliNumbers}
-use Rattle.distr.specs.Draw.{Outcome, outcome, settled}
+use Rattle.distr.specs.Draw.{Outcome, settled}
 use Rattle.draw_laws.proofs.Bounds.{Within}
 use Rattle.crt.specs.Rows.{lastRow, spreadAt, finishedAt}
 use Rattle.crt.proofs.Moduli.{moduli-above}
 use Rattle.crt.proofs.Residues.{spread-encode, rows-zero}
 
-module _ (half : ℕ) (out : List ℕ) (count : ℕ) (moduli : List ℕ) (answer : Answer) {after : List ℕ} where
+module _ (half : ℕ) (out : List ℕ) (count : ℕ) (moduli : List ℕ) (number place : ℕ) {after : List ℕ} where
   -- number 0
-  pub finished-rows : answer .number ≡ 0 → after ≡ spreadAt half out count moduli → outcome answer after ≡ finishedAt half out count moduli answer
-  finished-rows e h = rw (eq-eqb (answer .number) 0 e, h)
+  pub finished-rows : number ≡ 0 → after ≡ spreadAt half out count moduli → _≡_ {A = Outcome ℕ} (record { number = number; place = place; output = after }) (finishedAt half out count moduli number place)
+  finished-rows e h = rw (eq-eqb number 0 e, h)
 
   -- number 23
-  pub finished-zeros : answer .number ≡ 23 → after ≡ replicate (length out) 0 → outcome answer after ≡ finishedAt half out count moduli answer
-  finished-zeros e h = rw (ne-eqb (answer .number) 0 (λ z. omega arith), eq-eqb (answer .number) 23 e, h)
+  pub finished-zeros : number ≡ 23 → after ≡ replicate (length out) 0 → _≡_ {A = Outcome ℕ} (record { number = number; place = place; output = after }) (finishedAt half out count moduli number place)
+  finished-zeros e h = rw (ne-eqb number 0 (λ z. omega arith), eq-eqb number 23 e, h)
 
   -- another number
-  pub finished-kept : (answer .number ≡ 0 → ⊥) → (answer .number ≡ 23 → ⊥) → after ≡ out → outcome answer after ≡ finishedAt half out count moduli answer
-  finished-kept e f h = rw (ne-eqb (answer .number) 0 e, ne-eqb (answer .number) 23 f, h)
+  pub finished-kept : (number ≡ 0 → ⊥) → (number ≡ 23 → ⊥) → after ≡ out → _≡_ {A = Outcome ℕ} (record { number = number; place = place; output = after }) (finishedAt half out count moduli number place)
+  finished-kept e f h = rw (ne-eqb number 0 e, ne-eqb number 23 f, h)
 
 same-outcome : {m n p q : ℕ} {a b : List ℕ} → m ≡ n → p ≡ q → a ≡ b
     → _≡_ {A = Outcome ℕ} (record { number = m; place = p; output = a }) (record { number = n; place = q; output = b })
@@ -36,19 +35,19 @@ same-outcome e f g = rw (e, f, g)
 
 -- The last row as the rules settle it in native residues: the whole output is as they settle it, in rows of residues, if all
 -- magnitudes are at most a number below the top bit that the moduli were tested against.
-pub finished-settled : (half : ℕ) (out : List ℕ) (count : ℕ) (moduli : List ℕ) (answer : Answer) (most words place : ℕ) (read : Read (List ℤ))
+pub finished-settled : (half : ℕ) (out : List ℕ) (count : ℕ) (moduli : List ℕ) (number at most words place : ℕ) (read : Read (List ℤ))
     → length out ≡ count * length moduli → most < half → firstOf (moduliNumbers most moduli) ≡ 0
     → ((cs : List ℤ) (rest : List ℕ) → read ≡ got cs rest → Within most cs)
-    → outcome answer (lastRow out count) ≡ settled (map (encodeWith (2 * half - 1))) words place count read
-    → finishedAt half out count moduli answer ≡ settled (rows moduli) words place count read
+    → _≡_ {A = Outcome ℕ} (record { number = number; place = at; output = lastRow out count }) (settled (map (encodeWith (2 * half - 1))) words place count read)
+    → finishedAt half out count moduli number at ≡ settled (rows moduli) words place count read
 unfolding settled
-finished-settled half out count moduli answer most words place (got cs rest) shape h passed within e =
-    let number : answer .number ≡ 0 = ap (λ (o : Outcome ℕ). o .number) e in
-    rw (eq-eqb (answer .number) 0 number)
-    (same-outcome number (ap (λ (o : Outcome ℕ). o .place) e)
+finished-settled half out count moduli number at most words place (got cs rest) shape h passed within e =
+    let none : number ≡ 0 = ap (λ (o : Outcome ℕ). o .number) e in
+    rw (eq-eqb number 0 none)
+    (same-outcome none (ap (λ (o : Outcome ℕ). o .place) e)
     (spread-encode half most h out count moduli cs shape (ap (λ (o : Outcome ℕ). o .output) e) (within cs rest refl)
     (λ j k. le-of-lt (moduli-above most moduli passed j k))))
-finished-settled half out count moduli answer most words place short shape h passed within e =
-    let number : answer .number ≡ 23 = ap (λ (o : Outcome ℕ). o .number) e in
-    rw (ne-eqb (answer .number) 0 (λ z. omega arith), eq-eqb (answer .number) 23 number)
-    (same-outcome number (ap (λ (o : Outcome ℕ). o .place) e) (ap (λ (k : ℕ). replicate k 0) shape ∙ sym (rows-zero moduli count)))
+finished-settled half out count moduli number at most words place short shape h passed within e =
+    let lacking : number ≡ 23 = ap (λ (o : Outcome ℕ). o .number) e in
+    rw (ne-eqb number 0 (λ z. omega arith), eq-eqb number 23 lacking)
+    (same-outcome lacking (ap (λ (o : Outcome ℕ). o .place) e) (ap (λ (k : ℕ). replicate k 0) shape ∙ sym (rows-zero moduli count)))

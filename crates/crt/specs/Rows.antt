@@ -5,7 +5,6 @@ use mathlib.Core.Bool.{cond}
 use mathlib.Core.List.{List, [], _∷_, _++_, map}
 use lib.Dec.{ltb, eqb}
 use lib.ListN.{length, drop, replicate}
-use Rattle.distr.specs.declared.answer.Answer.{Answer}
 use Rattle.distr.specs.Constants.{outOfWords}
 use Rattle.distr.specs.Draw.{Outcome}
 
@@ -31,16 +30,16 @@ unfoldable pub spreadAt : ℕ → List ℕ → ℕ → List ℕ → List ℕ
 spreadAt half out coefficientCount moduli =
     cond (eqb (length out) (coefficientCount * length moduli)) (nativeRowsAt half moduli (lastRow out coefficientCount)) out
 
--- A CRT draw whose last row was drawn with this answer: number 0 spreads the rows, "23 keeps the place and writes zeros over the output",
+-- A CRT draw whose last row was drawn with this number and place: number 0 spreads the rows, "23 keeps the place and writes zeros over the output",
 -- and another leaves the output as it was.
-abbrev pub finishedAt : ℕ → List ℕ → ℕ → List ℕ → Answer → Outcome ℕ
-finishedAt half out coefficientCount moduli answer =
+abbrev pub finishedAt : ℕ → List ℕ → ℕ → List ℕ → ℕ → ℕ → Outcome ℕ
+finishedAt half out coefficientCount moduli number place =
     record {
-      number = answer .number;
-      place = answer .place;
+      number = number;
+      place = place;
       output =
-          cond (eqb (answer .number) 0) (spreadAt half out coefficientCount moduli)
-          (cond (eqb (answer .number) outOfWords) (replicate (length out) 0) out);
+          cond (eqb number 0) (spreadAt half out coefficientCount moduli)
+          (cond (eqb number outOfWords) (replicate (length out) 0) out);
     }
 
 -- At 64 bits.
@@ -50,5 +49,5 @@ fromNative modulus w = fromNativeAt (2 ^ 63) modulus w
 abbrev pub spread : List ℕ → ℕ → List ℕ → List ℕ
 spread out coefficientCount moduli = spreadAt (2 ^ 63) out coefficientCount moduli
 
-abbrev pub finished : List ℕ → ℕ → List ℕ → Answer → Outcome ℕ
-finished out coefficientCount moduli answer = finishedAt (2 ^ 63) out coefficientCount moduli answer
+abbrev pub finished : List ℕ → ℕ → List ℕ → ℕ → ℕ → Outcome ℕ
+finished out coefficientCount moduli number place = finishedAt (2 ^ 63) out coefficientCount moduli number place

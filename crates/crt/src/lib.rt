@@ -121,15 +121,16 @@ pub fn last_row(n: usize, coefficient_count: usize) -> usize
     }
 }
 
-// Ends a CRT draw whose last row was drawn with this answer: the rows where it succeeded, zeros over the whole output where a word was
-// not there. Another number leaves the output as it is.
+// Ends a CRT draw whose last row was drawn with this answer, and hands it back: the rows where it succeeded, zeros over the whole output where a word
+// was not there. Another number leaves the output as it is.
 pub fn finish(
     output: &mut [u64],
     coefficient_count: usize,
     moduli: &[u64],
     answer: Answer,
 ) -> Answer
-    ensures { λ r. ⌜ outcome r (now (output .exit)) ≡ finished (now (output .entry)) «coefficient_count» (now (moduli .entry)) answer ⌝ }
+    ensures { λ r. ⌜ outcome r (now (output .exit)) ≡ finished (now (output .entry)) «coefficient_count» (now (moduli .entry)) (answer .number) (answer .place) ⌝ }
+    ensures { λ r. ⌜ r ≡ answer ⌝ }
 {
     let number = answer.number;
     if number == 0 {

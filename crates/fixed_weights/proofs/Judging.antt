@@ -11,9 +11,11 @@ use Rattle.distr.specs.Rule.{Rule, readBy}
 use Rattle.distr.specs.Constants.{outputLimit}
 use Rattle.distr.specs.Numbers.{badWeight}
 use Rattle.distr.specs.declared.answer.Answer.{Answer}
-use Rattle.distr.specs.Answers.{refusal}
+use Rattle.distr.specs.Answers.{refusal, sums, reported}
+use Rattle.distr.specs.Skipped.{Skipped}
 use Rattle.distr.specs.Draw.{outcome, settled, ruleDraw}
 use Rattle.distr.proofs.Drawing.{weight-fits}
+use Rattle.distr.proofs.Skipping.{reports-refused}
 use Rattle.numbers.proofs.Refusing.{number-passed, rule-refused, rule-passed}
 use Rattle.fixed_weights.specs.declared.plans.Plan.{Plan}
 use Rattle.fixed_weights.specs.declared.plans.Planning.{Planning}
@@ -95,3 +97,7 @@ pub plan-refused : {A : Type 0} (write : List ℤ → List A) (rule : Rule) (wor
 plan-refused write rule words place weight out p d e a =
     let told = told-refused (weightNumber (length words) place (length out) weight) p (sym e ∙ d) in
     rw a (refused write rule words place weight out (told .0) (told .1))
+
+pub plan-reports-zeros : (number : ℕ) (p : Plan) (skipped : Skipped) {r : Planning} {k place : ℕ} {answer : Answer} → r ≡ planning number p
+    → r ≡ Refused k → answer ≡ refusal k place → sums answer ≡ reported (answer .number) skipped
+plan-reports-zeros number p skipped d e a = reports-refused skipped (told-refused number p (sym e ∙ d) .1) a

@@ -11,6 +11,9 @@ use Rattle.distr.specs.Words.{Read, got, short, mapRead, chooseEach}
 use Rattle.distr.specs.Rule.{Rule, readBy}
 use Rattle.distr.specs.Packed.{minusOne}
 use Rattle.distr.specs.Encoding.{encodeWith}
+use Rattle.distr.specs.declared.answer.Answer.{Answer}
+use Rattle.distr.specs.Answers.{sums, reported}
+use Rattle.distr.specs.Skipped.{skippedWords, passedEach}
 use Rattle.distr.specs.Insertion.{countUp, insertEach}
 use Rattle.distr.specs.Numbers.{badWeight}
 use Rattle.distr.specs.Draw.{Outcome, settled, ruleDraw}
@@ -52,6 +55,10 @@ holds-signed {minus} e = record {
 pub holds-residue : {one minus : ℕ} → minus ≡ encodeWith one minusOne → Holds 0 (map (encodeWith one)) (minus ∷ 1 ∷ 0 ∷ [])
 holds-residue {one} {minus} e = record { val = encodeWith one; writes = λ cs. refl; zeros = refl; tabled = by-codes (encodeWith one) minus 1 0 e refl refl }
 
+-- how many values a plan inserts as a rule
+values-planned : (p : Plan) → length (replicate (p .firsts) (codeValue (p .first)) ++ replicate (p .seconds) (codeValue (p .second))) ≡ planned p
+values-planned p = simp (length-append, length-replicate)
+
 module _ {A : Type 0} {z : A} {write : List ℤ → List A} {table : List A} (h : Holds z write table) where
   -- a reading settled is a reading placed
   pub settled-placed : (wordCount place n : ℕ) (r : Read (List ℤ)) → settled write wordCount place n r ≡ placed z wordCount place n (mapRead (map (h .val)) r)
@@ -75,7 +82,6 @@ module _ {A : Type 0} {z : A} {write : List ℤ → List A} {table : List A} (h 
   plan-inserts : (n : ℕ) (p : Plan) (ws : List ℕ) → Ready p n → mapRead (map (h .val)) (readBy (planRule p n) ws) ≡ inserting table z p n ws
   plan-inserts n p ws ready =
       let values : List ℤ = replicate (p .firsts) (codeValue (p .first)) ++ replicate (p .seconds) (codeValue (p .second)) in
-      let size : length values ≡ planned p = simp (length-append, length-replicate) in
       let left : ℕ = n - length values in
       let xs : List ℤ = replicate left (codeValue (p .fill)) in
       ap (λ (k : ℕ). mapRead (map (h .val)) (mapRead (λ ss. insertEach values ss xs) (chooseEach (countUp (suc k) (length values)) ws)))
@@ -83,7 +89,7 @@ module _ {A : Type 0} {z : A} {write : List ℤ → List A} {table : List A} (h 
       ∙ ap (mapRead (map (h .val))) (rule-inserts values xs ws)
       ∙ map-insert (h .val) values xs ws
       ∙ ap₂ (λ (vs ys : List A). insertAll vs ys ws) (inserted-values p (ready .first-code) (ready .second-code))
-      (copies left (p .fill) (ready .fill-code) ∙ ap (λ (k : ℕ). replicate (n - k) (getD table (p .fill) z)) size)
+      (copies left (p .fill) (ready .fill-code) ∙ ap (λ (k : ℕ). replicate (n - k) (getD table (p .fill) z)) (values-planned p))
 
   -- the answer of a draw by a plan is the rule's
   plan-settles : (rule : Rule) (n : ℕ) (p : Plan) (wordCount place : ℕ) (ws : List ℕ) → Planned rule n p
@@ -102,3 +108,14 @@ module _ {A : Type 0} {z : A} {write : List ℤ → List A} {table : List A} (h 
       ∙ plan-settles rule (length out) q (length words) place (drop place words)
       (plan-is (length words) place (length out) weight p d e (Planned rule (length out)) of-rule)
       ∙ accepted write rule words place weight out refl (plan-passed (length words) place (length out) weight p d e)
+
+-- what the choices of a draw by a plan pass over is what its rule skips
+pub plan-skips : {rule : Rule} {r : Planning} {p q : Plan} (words : List ℕ) (place weight n : ℕ) (answer : Answer) → (weight ≤ n → Planned rule n p)
+    → r ≡ planning (weightNumber (length words) place n weight) p → r ≡ By q
+    → sums answer ≡ reported (answer .number) (skippedWords (passedEach (countUp (suc (n - planned q)) (planned q)) (drop place words)))
+    → sums answer ≡ reported (answer .number) (rule .skips (drop place words))
+plan-skips {rule} {p = p} {q = q} words place weight n answer of-rule d e told =
+    let same = plan-is (length words) place n weight p d e (Planned rule n) of-rule .same in
+    told
+    ∙ ap (λ (m : ℕ). reported (answer .number) (skippedWords (passedEach (countUp (suc (n - m)) m) (drop place words)))) (sym (values-planned q))
+    ∙ ap (λ (r : Rule). reported (answer .number) (r .skips (drop place words))) same

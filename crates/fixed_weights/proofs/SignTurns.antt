@@ -1,21 +1,26 @@
 -- The loop that inserts signs, over any kind of value: what is read from the words left now is what is read from those left at first.
 use mathlib.Core.Path.{_≡_, sym, ap, _∙_}
-use mathlib.Core.List.{List}
-use Prim.Native.Nat.{ℕ, suc, _+_, _-_, _<_, _≤_}
+use mathlib.Core.List.{List, []}
+use Prim.Native.Nat.{ℕ, suc, _+_, _-_, _/_, _<_, _≤_}
 use native.Mathlib.Numerals.{add-one}
 use native.Mathlib.Omega.{arith}
-use lib.ListN.{length, getD, take, drop, set, replicate, length-replicate}
+use lib.ListN.{length, getD, take, drop, set, replicate, length-drop, length-replicate}
 use lib.Seq.{length-take-le}
 use Rattle.distr.specs.Words.{Read, got, short, bindRead}
 use Rattle.distr.specs.Constants.{outOfWords}
 use Rattle.distr.specs.declared.answer.Answer.{Answer}
-use Rattle.distr.specs.Answers.{refusal, success}
+use Rattle.distr.specs.Answers.{refusal, successAfter, sums, reported}
+use Rattle.distr.specs.Skipped.{Skipped, skippedWords}
+use Rattle.distr.specs.Packed.{digits}
+use Rattle.distr.specs.Insertion.{countUp, passedSigned}
 use Rattle.distr.specs.Draw.{outcome}
+use Rattle.distr.proofs.Skipping.{reports-words}
 use Rattle.distr.proofs.Writing.{take-replicate}
-use Rattle.words.proofs.Places.{lentFrom}
+use Rattle.words.proofs.Places.{lentFrom, lent-all}
 use Rattle.fixed_weights.specs.declared.choices.Signing.{Signing}
 use Rattle.fixed_weights.specs.declared.choices.Signing.the-variants.{Got, Short}
 use Rattle.fixed_weights.specs.Inserting.{SignAndPlace, signAndPlace, signing, insertedAt, insertSigns, placed, insertingSigns}
+use Rattle.fixed_weights.proofs.Counting.{insert-signs-count}
 use Rattle.fixed_weights.proofs.Signs.{Drew, drew, signing-short}
 use Rattle.fixed_weights.proofs.Turns.{Turn, turn-end, turn-next, placed-got, placed-short}
 
@@ -97,19 +102,39 @@ module _ {A : Type 0} {z : A} {table : List A} {words : List ℕ} {n weight : �
           ∙ signs-stop (λ b. getD table b z) (n - suc i) w left (take i out) (drop at words)
           (choice ∙ signing-short (length words) (signAndPlace (i + 1) w left (drop at words)) (sym e ∙ told))
 
+    -- every sign is inserted
+    module _ (h : n ≤ i) where
+      signs-end : goal z table words n weight ≡ got out (drop at words)
+      unfolding insertSigns
+      signs-end =
+          let none : n - i ≡ 0 = omega arith in
+          turn-end words n _ (still z table words n weight i w left) i at out (t .turn) h (λ xs ws. rw none)
+
+      -- a word was taken for each choice, one for each 32 signs, and those that the choices passed over
+      signs-count : at ≡ weight + (weight + 31) / 32 + passedSigned (countUp (suc (n - weight)) weight) [] words
+      unfolding digits
+      signs-count =
+          let zeros : List A = replicate (n - weight) (getD table 2 z) in
+          let all = insert-signs-count (λ b. getD table b z) weight 0 0 zeros out words (drop at words) signs-end in
+          omega (arith, rw (length-replicate) at all, length-drop at words, t .turn .within)
+
+      pub signs-used : weight + (weight + 31) / 32 ≤ at
+      signs-used = omega (arith, signs-count)
+
 -- the answers, from a place of the words: the loop is lent those from there on
 module _ {A : Type 0} (z : A) (table : List A) (words : List ℕ) (n weight place : ℕ) where
   abbrev Answers : Answer → List A → Type 0
   Answers answer out = outcome answer out ≡ placed z (length words) place n (goal z table (drop place words) n weight)
 
   module _ {i next w left : ℕ} {out : List A} (t : SignTurn z table (lentFrom words place) n weight i next w left out) where
-    pub signs-done : {answer : Answer} → place ≤ length words → answer ≡ success (place + next) → n ≤ i → Answers answer out
-    unfolding insertSigns
-    signs-done p e h =
-        let none : n - i ≡ 0 = omega arith in
-        rw e
-        (placed-got z words place n (insertingSigns table z weight n) next out p (t .turn .within)
-        (turn-end (lentFrom words place) n _ (still z table (lentFrom words place) n weight i w left) i next out (t .turn) h (λ xs ws. rw none)))
+    pub signs-done : {answer : Answer} {s : Skipped} → place ≤ length words → answer ≡ successAfter (place + next) s → n ≤ i → Answers answer out
+    signs-done p e h = rw e (placed-got z words place n (insertingSigns table z weight n) next out p (t .turn .within) (signs-end t h))
+
+    pub signs-reports : {answer : Answer} → answer ≡ successAfter (place + next) (skippedWords (next - (weight + (weight + 31) / 32))) → n ≤ i
+        → sums answer ≡ reported (answer .number) (skippedWords (passedSigned (countUp (suc (n - weight)) weight) [] (drop place words)))
+    signs-reports e h =
+        let passed = passedSigned (countUp (suc (n - weight)) weight) [] in
+        reports-words e (omega (arith, signs-count t h, ap passed (lent-all words place)))
 
     pub signs-short : {answer : Answer} {out′ : List A} {r : Signing} → i < n
         → r ≡ signing (length (lentFrom words place)) (signAndPlace (i + 1) w left (drop next (lentFrom words place))) → r ≡ Short

@@ -10,17 +10,17 @@ use lib.IntN.{ℤ, pos}
 use Rattle.distr.specs.Words.{Read, got, short, mapRead, bindRead, word, choose}
 use Rattle.distr.specs.Rule.{Rule, readBy}
 use Rattle.distr.specs.Packed.{digits, signValue, signsAlone}
-use Rattle.distr.specs.Insertion.{countUp, inserted, signs, chooseSigned, insertSigned, signedInsertion, fixedTernaryWeight}
+use Rattle.distr.specs.Insertion.{countUp, inserted, signs, chooseSigned, passedSigned, insertSigned, signedInsertion, fixedTernaryWeight}
 use Rattle.distr.specs.Constants.{outputLimit}
 use Rattle.distr.specs.Numbers.{badWeight}
 use Rattle.distr.specs.declared.answer.Answer.{Answer}
-use Rattle.distr.specs.Answers.{refusal}
+use Rattle.distr.specs.Answers.{refusal, sums, reported}
+use Rattle.distr.specs.Skipped.{nothing, skippedWords}
 use Rattle.distr.specs.Draw.{Outcome, outcome, ruleDraw}
-use Rattle.distr.proofs.Reading.{short-not-got}
+use Rattle.distr.proofs.Reading.{short-not-got, map-got, map-read-twice}
 use Rattle.distr.proofs.Writing.{map-replicate}
 use Rattle.fixed_weights.specs.Plans.{weightNumber}
 use Rattle.fixed_weights.specs.Inserting.{SignAndPlace, lowestSignAndPlace, signAndPlace, insertedAt, insertSigns, placed, insertingSigns}
-use Rattle.distr.proofs.Reading.{map-read-twice}
 use Rattle.fixed_weights.proofs.Inserting.{map-bind, bind-same, bind-bind, bind-map, length-inserted, map-inserted}
 use Rattle.fixed_weights.proofs.Judging.{Passed, passed, not-heavy, refused, accepted}
 use Rattle.fixed_weights.proofs.Planning.{Holds, settled-placed}
@@ -56,16 +56,10 @@ rule-signs (suc m) w zero xs ws =
     ∙ sym (bind-bind (word ws) _ _)
 rule-signs (suc m) w (suc left) xs ws = rule-sign m (rule-signs m) w left xs ws
 
--- what a changed reading gives was changed
-map-got : {A B : Type 0} (f : A → B) (r : Read A) (b : B) (rest : List ℕ) → mapRead f r ≡ got b rest → (a : A) × (b ≡ f a)
-unfolding mapRead
-map-got f (got a left) b rest e = let same : got (f a) left ≡ got b rest = e in (a, cc)
-map-got f short b rest e = absurd (short-not-got e)
-
 -- a sign is a bit
 lowest-bit : (k w left : ℕ) (ws : List ℕ) (c : SignAndPlace) (rest : List ℕ) → lowestSignAndPlace k w left ws ≡ got c rest → c .bit < 2
 unfolding lowestSignAndPlace
-lowest-bit k w left ws c rest e = rw (map-got _ (choose k ws) c rest e .1) (mod-lt w {m = 2} (omega arith))
+lowest-bit k w left ws c rest e = rw (map-got _ (choose k ws) c rest e .2) (mod-lt w {m = 2} (omega arith))
 
 sign-bit : (k w left : ℕ) (ws : List ℕ) (c : SignAndPlace) (rest : List ℕ) → signAndPlace k w left ws ≡ got c rest → c .bit < 2
 unfolding signAndPlace bindRead word
@@ -128,6 +122,17 @@ pub all-signs : {A : Type 0} (write : List ℤ → List A) {o : Outcome A} (word
     → weight < 2 ^ 64 → weight ≡ length out → o ≡ ruleDraw write 0 (signsAlone (length out)) words place out
     → o ≡ ruleDraw write (badWeight weight (length out)) (fixedTernaryWeight weight (length out)) words place out
 all-signs write words place weight out l e q = rw (not-heavy weight (length out) (omega arith) (omega arith), eq-eqb weight (length out) e) q
+
+-- what each of the two skips: signs alone nothing, insertions what their choices pass over
+module _ (words : List ℕ) (place weight n : ℕ) (answer : Answer) where
+  pub all-signs-skip : weight ≡ n → sums answer ≡ reported (answer .number) nothing
+      → sums answer ≡ reported (answer .number) (fixedTernaryWeight weight n .skips (drop place words))
+  all-signs-skip e told = rw (eq-eqb weight n e) told
+
+  pub signs-skip : (weight ≡ n → ⊥)
+      → sums answer ≡ reported (answer .number) (skippedWords (passedSigned (countUp (suc (n - weight)) weight) [] (drop place words)))
+      → sums answer ≡ reported (answer .number) (fixedTernaryWeight weight n .skips (drop place words))
+  signs-skip ne told = rw (ne-eqb weight n ne) told
 
 -- the number of one weight alone, the second being 0: what it refuses, and what it leaves
 pub weight-refused : {A : Type 0} (write : List ℤ → List A) (rule : Rule) (words : List ℕ) (place weight : ℕ) (out : List A) {k : ℕ} {answer : Answer}

@@ -7,13 +7,16 @@ use native.Mathlib.Numerals.{add-one}
 use native.Mathlib.Omega.{arith}
 use lib.Dec.{ltb}
 use borrow.Author.Tests.{ltb-true, ltb-false}
-use lib.ListN.{length, getD, take, drop, set, replicate, length-set, length-replicate}
+use lib.ListN.{length, getD, take, drop, set, replicate, length-append, length-drop, length-map, length-set, length-replicate}
 use lib.Seq.{take-all, length-take-le}
 use Rattle.distr.specs.Words.{Read, got, short, choose}
+use Rattle.distr.specs.Skipped.{Skipped, skippedWords, passedOver, passedEach}
+use Rattle.distr.specs.Insertion.{countUp}
 use Rattle.distr.specs.Constants.{outOfWords}
 use Rattle.distr.specs.declared.answer.Answer.{Answer}
-use Rattle.distr.specs.Answers.{refusal, success}
+use Rattle.distr.specs.Answers.{refusal, successAfter, sums, reported}
 use Rattle.distr.specs.Draw.{Outcome, outcome}
+use Rattle.distr.proofs.Skipping.{reports-words}
 use Rattle.distr.proofs.Writing.{take-replicate}
 use Rattle.words.specs.declared.Taken.{Taken}
 use Rattle.words.specs.declared.Taken.the-variants.{Got, Short}
@@ -25,6 +28,7 @@ use Rattle.fixed_weights.specs.declared.plans.Plan.{Plan}
 use Rattle.fixed_weights.specs.Plans.{planned, Ready}
 use Rattle.fixed_weights.specs.Inserting.{insertedAt, insertAll, placed, inserting}
 use Rattle.fixed_weights.proofs.Inserting.{stored-insertion, insert-next, insert-short}
+use Rattle.fixed_weights.proofs.Counting.{insert-all-count}
 
 module _ {A : Type 0} (words : List ℕ) (n : ℕ) (goal : Read (List A)) where
   -- i values are there, the words are read up to `at`, and `rest` is what is still to do
@@ -134,14 +138,28 @@ module _ {A : Type 0} {z : A} {table : List A} {words : List ℕ} {n first secon
     abbrev goal : Read (List A)
     goal = still z table words n first second split start (replicate start f) words
 
-    inserted-end : n ≤ i → goal ≡ got out (drop at words)
-    unfolding insertAll
-    inserted-end h =
-        turn-end words n goal _ i at out (t .turn) h (λ xs ws.
-        ap (λ (cs : List ℕ). insertAll (entries table z cs) xs ws) (codes-end first second split n i (t .room) h))
+    -- every value is inserted
+    module _ (end : n ≤ i) where
+      inserted-end : goal ≡ got out (drop at words)
+      unfolding insertAll
+      inserted-end =
+          turn-end words n goal _ i at out (t .turn) end (λ xs ws.
+          ap (λ (cs : List ℕ). insertAll (entries table z cs) xs ws) (codes-end first second split n i (t .room) end))
+
+      -- a word was taken for each, and those that the choices passed over
+      inserted-count : at ≡ n - start + passedEach (countUp (suc start) (n - start)) words
+      inserted-count =
+          let values : List A = entries table z (codesFrom first second split n start) in
+          let size : length values ≡ n - start = simp (length-map, length-append, length-replicate) (omega (arith, t .room)) in
+          let all = insert-all-count values (replicate start f) out words (drop at words) inserted-end in
+          omega (arith, rw (size, length-replicate) at all, length-drop at words, t .turn .within)
+
+      pub inserted-used : n - start ≤ at
+      inserted-used = omega (arith, inserted-count)
 
     -- a value is to be inserted, at a choice among i + 1; r is what that hands back
-    module _ (more : i < n) {r : Taken} (told : r ≡ taken (length words) (choose (i + 1) (drop at words))) where
+    module _ (more : i < n) {r : Taken}
+        (told : r ≡ taken (length words) (passedOver (i + 1) (drop at words)) (choose (i + 1) (drop at words))) where
       inserts : still z table words n first second split i (take i out) (drop at words)
           ≡ insertAll (getD table (cond (ltb i split) first second) z ∷ entries table z (codesFrom first second split n (suc i))) (take i out) (drop at words)
       inserts = ap (λ (cs : List ℕ). insertAll (entries table z cs) (take i out) (drop at words)) (codes-next first second split n i (t .room) more)
@@ -149,7 +167,7 @@ module _ {A : Type 0} {z : A} {table : List A} {words : List ℕ} {n first secon
       choice : choose (suc (length (take i out))) (drop at words) ≡ choose (i + 1) (drop at words)
       choice = ap (λ (k : ℕ). choose k (drop at words)) (omega (arith, length-take-le i out (omega (arith, t .turn .size))))
 
-      module _ {s next : ℕ} (chosen : r ≡ Got s next) where
+      module _ {s next skipped : ℕ} (chosen : r ≡ Got s next skipped) where
         -- the index and the place are there
         pub insert-index : i < length out
         insert-index = omega (arith, t .turn .size)
@@ -172,7 +190,7 @@ module _ {A : Type 0} {z : A} {table : List A} {words : List ℕ} {n first secon
       inserted-short : r ≡ Short → goal ≡ short
       inserted-short e =
           sym (t .turn .reading) ∙ inserts
-          ∙ insert-short _ _ (take i out) (drop at words) (choice ∙ taken-short (length words) (choose (i + 1) (drop at words)) (sym e ∙ told))
+          ∙ insert-short _ _ (take i out) (drop at words) (choice ∙ taken-short (length words) _ _ (sym e ∙ told))
 
 -- the loop that inserts by a plan
 module _ {n : ℕ} {p : Plan} (ready : Ready p n) where
@@ -187,20 +205,29 @@ module _ {n : ℕ} {p : Plan} (ready : Ready p n) where
       → InPlan z table words (n - p .seconds - p .firsts) 0 out
   plan-start z table words e = inserted-start (omega arith) (omega arith) e
 
-  -- its answers, from a place of the words: the loop is lent those from there on
+  -- the answers, from a place of the words: the loop is lent those from there on
   module _ {A : Type 0} (z : A) (table : List A) (words : List ℕ) (place : ℕ) where
     abbrev Answers : Answer → List A → Type 0
     Answers answer out = outcome answer out ≡ placed z (length words) place n (inserting table z p n (drop place words))
 
     module _ {i next : ℕ} {out : List A} (t : InPlan z table (lentFrom words place) i next out) where
-      pub plan-done : {answer : Answer} → place ≤ length words → answer ≡ success (place + next) → n ≤ i → Answers answer out
+      pub plan-done : {answer : Answer} {s : Skipped} → place ≤ length words → answer ≡ successAfter (place + next) s → n ≤ i → Answers answer out
       plan-done w e h = rw e
           (placed-got z words place n (inserting table z p n) next out w (t .turn .within)
           (sym (wanted-by-plan z table (lentFrom words place) n p (ready .room)) ∙ inserted-end t h))
 
+      pub plan-reports : {answer : Answer} → answer ≡ successAfter (place + next) (skippedWords (next - (n - (n - p .seconds - p .firsts)))) → n ≤ i
+          → sums answer ≡ reported (answer .number) (skippedWords (passedEach (countUp (suc (n - planned p)) (planned p)) (drop place words)))
+      plan-reports e h =
+          let start : n - p .seconds - p .firsts ≡ n - planned p = omega arith in
+          let used : n - (n - planned p) ≡ planned p = omega (arith, ready .room) in
+          let counted = rw (start, used, lent-all) at (inserted-count t h) in
+          reports-words e (omega (arith, counted))
+
       pub plan-short : {answer : Answer} {out′ : List A} {r : Taken} → i < n
-          → r ≡ taken (length (lentFrom words place)) (choose (i + 1) (drop next (lentFrom words place))) → r ≡ Short
-          → answer ≡ refusal outOfWords place → out′ ≡ replicate (length out) z → Answers answer out′
+          → r ≡ taken (length (lentFrom words place)) (passedOver (i + 1) (drop next (lentFrom words place)))
+          (choose (i + 1) (drop next (lentFrom words place)))
+          → r ≡ Short → answer ≡ refusal outOfWords place → out′ ≡ replicate (length out) z → Answers answer out′
       plan-short h told e a o = rw (a, o, t .turn .size)
           (placed-short z words place n (inserting table z p n)
           (sym (wanted-by-plan z table (lentFrom words place) n p (ready .room)) ∙ inserted-short t h told e))

@@ -29,6 +29,7 @@ fn lowest_sign_and_place(words: &[u32], place: usize, word: u64, left: usize, k:
         Taken::Got {
             value,
             place: after,
+            skipped: _,
         } => {
             let selected = value as usize;
             Signing::Got {
@@ -52,6 +53,7 @@ pub fn sign_and_place(words: &[u32], place: usize, word: u64, left: usize, k: u6
             Taken::Got {
                 value,
                 place: after,
+                skipped: _,
             } => lowest_sign_and_place(words, after, value, 32, k),
             Taken::Short => Signing::Short,
         }

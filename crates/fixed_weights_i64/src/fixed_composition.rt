@@ -9,10 +9,11 @@ use fixed_weights::plans;
 use fixed_weights::plans::Planning;
 ghost use mathlib.Core.Path.{_≡_};
 ghost use Prim.Native.Nat.{_+_};
-ghost use lib.ListN.{length};
+ghost use lib.ListN.{length, drop};
 ghost use Rattle.distr.specs.Numbers.{badWeight};
 ghost use Rattle.distr.specs.Insertion.{fixedComposition};
 ghost use Rattle.distr.specs.Draw.{outcome, ruleDraw};
+ghost use Rattle.distr.specs.Answers.{sums, reported};
 ghost use Rattle.output_i64.specs.Out.{held};
 
 // Exactly minus_one_weight times -1 and one_weight times 1, the rest zeros.
@@ -25,6 +26,7 @@ pub fn sample_fixed_composition_ternary_values_to(
     place: usize,
 ) -> Answer
     ensures { λ r. ⌜ outcome r (now (output .exit)) ≡ ruleDraw (held encoding) (badWeight («minus_one_weight» + «one_weight») (length (now (output .entry)))) (fixedComposition «minus_one_weight» «one_weight» (length (now (output .entry)))) (now (words .entry)) place (now (output .entry)) ⌝ }
+    ensures { λ r. ⌜ sums r ≡ reported (r .number) (fixedComposition «minus_one_weight» «one_weight» (length (now (output .entry))) .skips (drop place (now (words .entry)))) ⌝ }
 {
     let n = output.len();
     match plans::composition_plan(words.len(), place, n, minus_one_weight, one_weight) {

@@ -8,10 +8,11 @@ use distr::answer::refused;
 use fixed_weights::plans;
 use fixed_weights::plans::Planning;
 ghost use mathlib.Core.Path.{_≡_};
-ghost use lib.ListN.{length};
+ghost use lib.ListN.{length, drop};
 ghost use Rattle.distr.specs.Numbers.{badWeight};
 ghost use Rattle.distr.specs.Insertion.{fixedBinaryWeight, fixedTernaryWeight};
 ghost use Rattle.distr.specs.Draw.{outcome, ruleDraw};
+ghost use Rattle.distr.specs.Answers.{sums, reported};
 ghost use Rattle.output_u64.specs.Out.{held};
 
 // Exactly hamming_weight ones, the rest zeros.
@@ -25,6 +26,7 @@ pub fn sample_fixed_hamming_weight_binary_values_to(
     ensures { λ r. ⌜ outcome r (now (output .exit)) ≡
         ruleDraw (held encoding) (badWeight «hamming_weight» (length (now (output .entry))))
         (fixedBinaryWeight «hamming_weight» (length (now (output .entry)))) (now (words .entry)) place (now (output .entry)) ⌝ }
+    ensures { λ r. ⌜ sums r ≡ reported (r .number) (fixedBinaryWeight «hamming_weight» (length (now (output .entry))) .skips (drop place (now (words .entry)))) ⌝ }
 {
     match plans::binary_plan(words.len(), place, output.len(), hamming_weight) {
         Planning::By(plan) => {
@@ -47,6 +49,7 @@ pub fn sample_fixed_hamming_weight_ternary_values_to(
 ) -> Answer
     ensures { λ r. ⌜ outcome r (now (output .exit)) ≡ ruleDraw (held encoding) (badWeight «hamming_weight» (length (now (output .entry))))
         (fixedTernaryWeight «hamming_weight» (length (now (output .entry)))) (now (words .entry)) place (now (output .entry)) ⌝ }
+    ensures { λ r. ⌜ sums r ≡ reported (r .number) (fixedTernaryWeight «hamming_weight» (length (now (output .entry))) .skips (drop place (now (words .entry)))) ⌝ }
 {
     let n = output.len();
     let number = plans::weight_number(words.len(), place, n, hamming_weight, 0);

@@ -5,7 +5,7 @@ use crate::clear;
 use crate::fill;
 use distr::answer::Answer;
 use distr::answer::refused;
-use distr::answer::succeeded;
+use distr::answer::succeeded_after;
 use distr::refusal::OUT_OF_WORDS;
 use fixed_weights::choices;
 use fixed_weights::choices::Signing;
@@ -13,13 +13,17 @@ use fixed_weights::plans;
 use fixed_weights::plans::Plan;
 use words::Taken;
 ghost use mathlib.Core.Path.{_≡_};
-ghost use Prim.Native.Nat.{_≤_, _<_};
+ghost use mathlib.Core.List.{[]};
+ghost use Prim.Native.Nat.{_≤_, _<_, suc, _-_};
 ghost use lib.ListN.{length, getD, drop, set, replicate};
 ghost use Rattle.distr.specs.Constants.{outputLimit};
 ghost use Rattle.distr.specs.Draw.{outcome};
+ghost use Rattle.distr.specs.Answers.{sums, reported};
+ghost use Rattle.distr.specs.Skipped.{skippedWords, passedEach};
+ghost use Rattle.distr.specs.Insertion.{countUp, passedSigned};
 ghost use Rattle.output_u64.specs.Out.{zero};
 ghost use Rattle.fixed_weights.specs.Inserting.{placed, inserting, insertingSigns};
-ghost use Rattle.fixed_weights.specs.Plans.{Ready};
+ghost use Rattle.fixed_weights.specs.Plans.{Ready, planned};
 
 // Writes one value of the table over the output.
 fn fill_with(output: &mut [Out], values: &[Out; 3], code: usize)
@@ -41,7 +45,8 @@ fn insert_at(output: &mut [Out], i: usize, s: usize, values: &[Out; 3], code: us
 
 // Fills the output, then inserts by the plan at each index from the first that is left, at a place chosen among those up to it.
 // The words from the place on are a slice of their own, which the compiler keeps at hand in the loop. The cast of the index
-// tells it that a choice is among at most 65,536, so that the choice's size needs no test.
+// tells it that a choice is among at most 65,536, so that the choice's size needs no test. Of the words taken one was used for
+// each value inserted; the choices passed over the others.
 pub(crate) fn insert_random_values(
     output: &mut [Out],
     values: &[Out; 3],
@@ -51,6 +56,7 @@ pub(crate) fn insert_random_values(
 ) -> Answer
     requires { ⌜ Ready plan (length (now output)) × (length (now output) ≤ outputLimit) × (place ≤ length (now words)) ⌝ }
     ensures { λ r. ⌜ outcome r (now (output .exit)) ≡ placed zero (length (now (words .entry))) place (length (now (output .entry))) (inserting (now (values .entry)) zero plan (length (now (output .entry))) (drop place (now (words .entry)))) ⌝ }
+    ensures { λ r. ⌜ sums r ≡ reported (r .number) (skippedWords (passedEach (countUp (suc (length (now (output .entry)) - planned plan)) (planned plan)) (drop place (now (words .entry))))) ⌝ }
 {
     let n = output.len();
     let filling = plan.fill;
@@ -58,7 +64,8 @@ pub(crate) fn insert_random_values(
     let second = plan.second;
     let split = n - plan.seconds;
     fill_with(output, values, filling);
-    let mut i = split - plan.firsts;
+    let start = split - plan.firsts;
+    let mut i = start;
     let from = &words[place..];
     let mut next: usize = 0;
     while i < n {
@@ -66,6 +73,7 @@ pub(crate) fn insert_random_values(
             Taken::Got {
                 value,
                 place: after,
+                skipped: _,
             } => {
                 let code = plans::code_at(i, split, first, second);
                 insert_at(output, i, value as usize, values, code);
@@ -78,11 +86,12 @@ pub(crate) fn insert_random_values(
             }
         }
     }
-    succeeded(place + next)
+    let used = n - start;
+    succeeded_after(place + next, (next - used) as u64, 0)
 }
 
 // Fills the output with zeros, then inserts `hamming_weight` signs, each at a place chosen among those up to its index. The slice of the
-// words and the cast are as above.
+// words and the cast are as above; of the words taken one was used for each choice and one for each 32 signs.
 pub(crate) fn insert_random_signs(
     output: &mut [Out],
     values: &[Out; 3],
@@ -92,6 +101,7 @@ pub(crate) fn insert_random_signs(
 ) -> Answer
     requires { ⌜ («hamming_weight» ≤ length (now output)) × (length (now output) ≤ outputLimit) × (place ≤ length (now words)) ⌝ }
     ensures { λ r. ⌜ outcome r (now (output .exit)) ≡ placed zero (length (now (words .entry))) place (length (now (output .entry))) (insertingSigns (now (values .entry)) zero «hamming_weight» (length (now (output .entry))) (drop place (now (words .entry)))) ⌝ }
+    ensures { λ r. ⌜ sums r ≡ reported (r .number) (skippedWords (passedSigned (countUp (suc (length (now (output .entry)) - «hamming_weight»)) «hamming_weight») [] (drop place (now (words .entry))))) ⌝ }
 {
     let n = output.len();
     fill_with(output, values, 2);
@@ -121,5 +131,6 @@ pub(crate) fn insert_random_signs(
             }
         }
     }
-    succeeded(place + at)
+    let used = hamming_weight + (hamming_weight + 31) / 32;
+    succeeded_after(place + at, (at - used) as u64, 0)
 }

@@ -3,4 +3,5 @@ pub mod Pairing
 pub mod Storing
 pub mod Packing
 pub mod Deciding
+pub mod Rejecting
 pub mod TritLoop

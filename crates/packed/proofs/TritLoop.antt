@@ -1,8 +1,9 @@
--- Filling an output with trits: what the rule gives from the bytes and words still left is what it gives from the start.
+-- Filling an output with trits: what the rule gives from the bytes and words still left is what it gives from the start, and the bytes gone are
+-- those it looked at.
 use mathlib.Core.Path.{_≡_, refl, sym, ap, ap₂, _∙_}
-use mathlib.Core.Bool.{Bool, true, false, cond}
+use mathlib.Core.Bool.{Bool, true, false, true≢false}
 use mathlib.Core.List.{List, [], _∷_, _++_, map, append-nil, append-assoc}
-use Prim.Native.Nat.{ℕ, zero, suc, _+_, _*_, _-_, _/_, _%_, _<_, _≤_}
+use Prim.Native.Nat.{ℕ, zero, suc, _+_, _*_, _-_, _/_, _%_, _^_, _<_, _≤_, min}
 use native.Mathlib.Nat.{sub-zero, zero-sub, le-of-eq}
 use native.Mathlib.Numerals.{add-one}
 use native.Mathlib.Omega.{arith}
@@ -13,29 +14,22 @@ use lib.ListN.{length, getD, take, drop, replicate, length-map, length-append, d
 use lib.Seq.{paste, take-paste, take-nil, take-append-add, take-append-le, take-all, drop-cons, length-paste}
 use Rattle.distr.specs.Words.{Read, got, short, mapRead}
 use Rattle.distr.specs.Packed.{digits, split}
-use Rattle.distr.specs.UniformTernary.{acceptedBytes, bytes}
+use Rattle.distr.specs.UniformTernary.{acceptedBytes, bytes, rejectedBytes}
 use Rattle.distr.proofs.Reading.{map-read-twice, map-read-same}
 use Rattle.distr.proofs.Writing.{map-append, map-take}
+use Rattle.packed.specs.declared.bytes.Ended.{Ended}
 use Rattle.packed.specs.Pairs.{digitValue, digitValues, Paired}
-use Rattle.packed.specs.Trits.{bytesWanted, tritsFrom, BytesStored}
+use Rattle.packed.specs.Trits.{bytesWanted, bytesLooked, tritsFrom, BytesStored, Looked}
 use Rattle.packed.proofs.Storing.{length-digits}
 use Rattle.packed.proofs.Packing.{from-front, length-split}
+use Rattle.packed.proofs.Rejecting.{accepted-append, lookedFrom, looked-words, looked-next, looked-none, looked-front}
 
 read-id : {A : Type 0} (r : Read A) → mapRead (λ a. a) r ≡ r
 unfolding mapRead
 read-id (got a rest) = refl
 read-id short = refl
 
--- the bytes accepted and the digits of two lists, one after the other
-accepted-append : (xs ys : List ℕ) → acceptedBytes (xs ++ ys) ≡ acceptedBytes xs ++ acceptedBytes ys
-unfolding acceptedBytes
-accepted-append [] ys = refl
-accepted-append (x ∷ xs) ys = go (ltb x 243) (acceptedBytes xs) (accepted-append xs ys)
-  where
-    go : (t : Bool) {both : List ℕ} (front : List ℕ) → both ≡ front ++ acceptedBytes ys → cond t (x ∷ both) both ≡ cond t (x ∷ front) front ++ acceptedBytes ys
-    go true front e = ap (λ (l : List ℕ). x ∷ l) e
-    go false front e = e
-
+-- the digits of two lists, one after the other
 split-append : (xs ys : List ℕ) → split 3 5 (xs ++ ys) ≡ split 3 5 xs ++ split 3 5 ys
 unfolding split
 split-append [] ys = refl
@@ -167,6 +161,10 @@ module _ {A : Type 0} (z : A) (pairs : List A) (words : List ℕ) (out₀ : List
   abbrev Left : List A → ℕ → List ℕ → ℕ → Read (List A)
   Left out at bs next = mapRead (finished at out) (bytesFrom bs (drop next words) (bytesWanted (length out₀ - at)))
 
+  -- the bytes that it looks at there, and those before the next word
+  abbrev LeftLooked : ℕ → List ℕ → ℕ → ℕ
+  LeftLooked at bs next = lookedFrom bs (drop next words) (bytesWanted (length out₀ - at)) + 4 * next
+
   -- the state of the filling: `at` values are written, `next` is the next word's place, `left` bytes are left in `rest`
   pub record TritLoop (out : List A) (at next rest left : ℕ) : Type 0 where
     pub sized : length out ≡ length out₀
@@ -174,6 +172,8 @@ module _ {A : Type 0} (z : A) (pairs : List A) (words : List ℕ) (out₀ : List
     pub found : next ≤ length words
     pub paired : Paired 3 z pairs
     pub same : Left out at (digits 256 left rest) next ≡ Whole
+    pub few : left ≤ 4
+    pub looked : bytesLooked (drop place words) (length out₀ - from) + left + 4 * place ≡ LeftLooked at (digits 256 left rest) next
 
   pub trit-none : from ≤ length out₀ → place ≤ length words → Paired 3 z pairs → TritLoop out₀ from place 0 0
   unfolding digits
@@ -183,31 +183,39 @@ module _ {A : Type 0} (z : A) (pairs : List A) (words : List ℕ) (out₀ : List
     found = h;
     paired = p;
     same = ap (mapRead (finished from out₀)) (from-words (drop place words) (bytesWanted (length out₀ - from)));
+    few = omega arith;
+    looked = omega (arith, looked-words (drop place words) (bytesWanted (length out₀ - from)));
   }
 
   -- some value is wanted, so some byte is
   wanted-more : {at : ℕ} → at < length out₀ → bytesWanted (length out₀ - at) ≡ suc ((length out₀ - at - 1) / 5)
   wanted-more {at} h = omega arith
 
-  -- a word is read
+  -- a word is read, whatever is asked of the bytes and words left
+  next-word : {B : Type 0} (F : List ℕ → List ℕ → ℕ → B) → ((w : ℕ) (ws : List ℕ) (m : ℕ) → F [] (w ∷ ws) (suc m) ≡ F (digits 256 4 w) ws (suc m))
+      → {at next left : ℕ} (rest : ℕ) → at < length out₀ → left ≡ 0 → next < length words
+      → F (digits 256 4 (getD words next 0)) (drop (next + 1) words) (bytesWanted (length out₀ - at))
+      ≡ F (digits 256 left rest) (drop next words) (bytesWanted (length out₀ - at))
+  next-word F step {at} {next} rest h none l =
+      let m : ℕ = (length out₀ - at - 1) / 5 in
+      let w : ℕ = getD words next 0 in
+      ap₂ (λ (j k : ℕ). F (digits 256 4 w) (drop j words) k) (add-one next) (wanted-more h)
+      ∙ sym (step w (drop (suc next) words) m)
+      ∙ ap₂ (λ (ws : List ℕ) (k : ℕ). F [] ws k) (sym (drop-cons words next 0 l)) (sym (wanted-more h))
+      ∙ ap (λ (ds : List ℕ). F ds (drop next words) (bytesWanted (length out₀ - at))) (sym (digits-none rest none))
+
   pub trit-word : {out : List A} {at next rest left : ℕ} → at < length out₀ → left ≡ 0 → (next ≡ length words → ⊥) → TritLoop out at next rest left
       → TritLoop out at (next + 1) (getD words next 0) 4
   trit-word {out} {at} {next} {rest} h none more s =
       let l : next < length words = omega (arith, s .found) in
-      let m : ℕ = (length out₀ - at - 1) / 5 in
-      let w : ℕ = getD words next 0 in
       record {
         sized = s .sized;
         within = s .within;
         found = omega arith;
         paired = s .paired;
-        same =
-            ap (mapRead (finished at out))
-            (ap₂ (λ (j k : ℕ). bytesFrom (digits 256 4 w) (drop j words) k) (add-one next) (wanted-more h)
-            ∙ sym (from-next w (drop (suc next) words) m)
-            ∙ ap₂ (λ (ws : List ℕ) (k : ℕ). bytesFrom [] ws k) (sym (drop-cons words next 0 l)) (sym (wanted-more h))
-            ∙ ap (λ (ds : List ℕ). bytesFrom ds (drop next words) (bytesWanted (length out₀ - at))) (sym (digits-none rest none)))
-            ∙ s .same;
+        same = ap (mapRead (finished at out)) (next-word bytesFrom from-next rest h none l) ∙ s .same;
+        few = omega arith;
+        looked = omega (arith, s .looked, next-word lookedFrom looked-next rest h none l);
       }
 
   -- bytes are taken off those left, and the values of their first digits are stored, which are all that there is room for
@@ -230,7 +238,16 @@ module _ {A : Type 0} (z : A) (pairs : List A) (words : List ℕ) (out₀ : List
       ∙ sym (map-read-twice (finished at out) (λ ds. accepted ++ ds) (bytesFrom left ws m))
       ∙ ap (mapRead (finished at out)) (sym (from-bytes bs left ws m) ∙ ap (bytesFrom (bs ++ left) ws) (sym e))
 
+  -- they were looked at, where no fewer are wanted
+  looked-less : (at at′ next : ℕ) (bs left : List ℕ) → bytesWanted (length out₀ - at) ≡ length (acceptedBytes bs) + bytesWanted (length out₀ - at′)
+      → length bs ≤ bytesWanted (length out₀ - at) → LeftLooked at (bs ++ left) next ≡ length bs + LeftLooked at′ left next
+  looked-less at at′ next bs left e h = rw e (omega (arith, looked-front bs left (drop next words) (bytesWanted (length out₀ - at′)) (rw e at h)))
+
   -- bytes whose digits all have room
+  wanted-stored : {out out′ : List A} {at at′ : ℕ} (bs : List ℕ) → at + 5 * length bs ≤ length out₀ → BytesStored z pairs out at bs out′ at′
+      → bytesWanted (length out₀ - at) ≡ length (acceptedBytes bs) + bytesWanted (length out₀ - at′)
+  wanted-stored bs h s = omega (arith, s .moved, s .within)
+
   left-stored : {out out′ : List A} {at at′ : ℕ} (next : ℕ) (bs left : List ℕ) → at + 5 * length bs ≤ length out₀ → BytesStored z pairs out at bs out′ at′
       → Left out′ at′ left next ≡ Left out at (bs ++ left) next
   left-stored {out} {out′} {at} {at′} next bs left h s =
@@ -241,32 +258,45 @@ module _ {A : Type 0} (z : A) (pairs : List A) (words : List ℕ) (out₀ : List
       let w = s .within in
       let long : length D ≡ length accepted * 5 = length-split 3 5 accepted in
       let front : length out₀ - at ≡ length D + r = omega arith in
-      left-less out out′ at at′ next bs left D (omega arith) (λ ds. ap (λ (j : ℕ). take j (D ++ ds)) front ∙ take-append-add D ds r) (s .holds)
+      left-less out out′ at at′ next bs left D (wanted-stored bs h s)
+      (λ ds. ap (λ (j : ℕ). take j (D ++ ds)) front ∙ take-append-add D ds r) (s .holds)
 
   -- a byte is taken off those left
-  taken : {out out′ : List A} {at at′ next rest left : ℕ} → (left ≡ 0 → ⊥) → length out′ ≡ length out₀ → at′ ≤ length out₀
+  taken : {out out′ : List A} {at at′ next rest left : ℕ} → at < length out₀ → (left ≡ 0 → ⊥) → length out′ ≡ length out₀ → at′ ≤ length out₀
+      → bytesWanted (length out₀ - at) ≡ length (acceptedBytes (rest % 256 ∷ [])) + bytesWanted (length out₀ - at′)
       → Left out′ at′ (digits 256 (left - 1) (rest / 256)) next ≡ Left out at ((rest % 256 ∷ []) ++ digits 256 (left - 1) (rest / 256)) next
       → TritLoop out at next rest left → TritLoop out′ at′ next (rest / 256) (left - 1)
-  taken {out} {at = at} {next = next} {rest = rest} {left = left} k e w step s = record {
-    sized = e;
-    within = w;
-    found = s .found;
-    paired = s .paired;
-    same = step ∙ ap (λ (ds : List ℕ). Left out at ds next) (sym (digits-more left rest (omega arith))) ∙ s .same;
-  }
+  taken {out} {at = at} {at′ = at′} {next = next} {rest = rest} {left = left} h k e w wanted step s =
+      let more : digits 256 left rest ≡ (rest % 256 ∷ []) ++ digits 256 (left - 1) (rest / 256) = digits-more left rest (omega arith) in
+      record {
+        sized = e;
+        within = w;
+        found = s .found;
+        paired = s .paired;
+        same = step ∙ ap (λ (ds : List ℕ). Left out at ds next) (sym more) ∙ s .same;
+        few = omega (arith, s .few);
+        looked =
+            omega (
+              arith,
+              s .looked,
+              ap (λ (ds : List ℕ). LeftLooked at ds next) more,
+              looked-less at at′ next (rest % 256 ∷ []) (digits 256 (left - 1) (rest / 256)) wanted (omega arith),
+            );
+      }
 
   -- its digits are stored, or it is skipped
   pub trit-byte : {out out′ : List A} {at at′ next rest left : ℕ} → at + 5 ≤ length out₀ → (left ≡ 0 → ⊥) → length out′ ≡ length out
       → TritLoop out at next rest left → BytesStored z pairs out at (rest % 256 ∷ []) out′ at′ → TritLoop out′ at′ next (rest / 256) (left - 1)
   trit-byte {next = next} {rest = rest} {left = left} l k e s b =
       let w = b .within in
-      taken k (e ∙ s .sized) (omega arith) (left-stored next (rest % 256 ∷ []) (digits 256 (left - 1) (rest / 256)) l b) s
+      taken (omega arith) k (e ∙ s .sized) (omega arith) (wanted-stored (rest % 256 ∷ []) l b)
+      (left-stored next (rest % 256 ∷ []) (digits 256 (left - 1) (rest / 256)) l b) s
 
   -- a whole word's digits are stored
   pub trit-whole : {out out′ : List A} {at at′ next : ℕ} → at + 20 ≤ length out₀ → next < length words → length out′ ≡ length out
       → TritLoop out at next 0 0 → BytesStored z pairs out at (digits 256 4 (getD words next 0)) out′ at′ → TritLoop out′ at′ (next + 1) 0 0
   unfolding digits
-  trit-whole {out} {at = at} {next = next} l k e s b =
+  trit-whole {out} {at = at} {at′ = at′} {next = next} l k e s b =
       let w : ℕ = getD words next 0 in
       let read = trit-word {rest = 0} (omega arith) refl (λ e. omega arith) s in
       let four : length (digits 256 4 w) ≡ 4 = length-digits 256 4 w in
@@ -280,6 +310,14 @@ module _ {A : Type 0} (z : A) (pairs : List A) (words : List ℕ) (out₀ : List
             left-stored (next + 1) (digits 256 4 w) [] (omega arith) b
             ∙ ap (λ (ds : List ℕ). Left out at ds (next + 1)) (append-nil (digits 256 4 w))
             ∙ read .same;
+        few = omega arith;
+        looked =
+            omega (
+              arith,
+              read .looked,
+              ap (λ (ds : List ℕ). LeftLooked at ds (next + 1)) (append-nil (digits 256 4 w)),
+              looked-less at at′ (next + 1) (digits 256 4 w) [] (wanted-stored (digits 256 4 w) (omega arith) b) (omega arith),
+            );
       }
 
   -- the last digits, as many as there is room for, stored aside over eight zeros and copied
@@ -299,21 +337,25 @@ module _ {A : Type 0} (z : A) (pairs : List A) (words : List ℕ) (out₀ : List
       let end : at + count ≡ length out₀ = omega arith in
       let none : length out₀ - length out₀ ≡ 0 = omega arith in
       let copied : out′ ≡ paste out at vs count = from-front (replicate 8 z) vs out at 5 count (omega arith) (le-of-eq (sym fives)) (p m) (rw sized at o) in
-      taken k (ap length copied ∙ length-paste out at vs count (omega arith) (omega arith) ∙ sized) (omega arith)
+      let wanted : bytesWanted (length out₀ - at) ≡ length (acceptedBytes (b ∷ [])) + bytesWanted (length out₀ - length out₀) =
+      rw (lt-ltb b 243 m) (omega arith) in
+      taken l k (ap length copied ∙ length-paste out at vs count (omega arith) (omega arith) ∙ sized) (omega arith) wanted
       (left-less out out′ at (length out₀) next (b ∷ []) (digits 256 (left - 1) (rest / 256)) (take count D)
-      (rw (lt-ltb b 243 m) (omega arith))
+      wanted
       (λ ds. rw (lt-ltb b 243 m, append-nil D) (take-append-le count D ds fits ∙ sym (append-nil (take count D)) ∙ ap (λ (j : ℕ). take count D ++ take j ds) (sym none)))
       (ap₂ take (sym end) copied ∙ take-paste out at vs count (omega arith) (omega arith) ∙ ap (λ (l : List A). take at out ++ l) (sym (map-take (digitValue z pairs) count D))))
       s
 
   -- a byte is skipped
-  pub trit-skip : {out : List A} {at next rest left : ℕ} → (left ≡ 0 → ⊥) → 243 ≤ rest % 256 → TritLoop out at next rest left
+  pub trit-skip : {out : List A} {at next rest left : ℕ} → at < length out₀ → (left ≡ 0 → ⊥) → 243 ≤ rest % 256 → TritLoop out at next rest left
       → TritLoop out at next (rest / 256) (left - 1)
   unfolding acceptedBytes split
-  trit-skip {out} {at} {next} {rest} {left} h l s =
-      taken h (s .sized) (s .within)
+  trit-skip {out} {at} {next} {rest} {left} h k l s =
+      let wanted : bytesWanted (length out₀ - at) ≡ length (acceptedBytes (rest % 256 ∷ [])) + bytesWanted (length out₀ - at) =
+      rw (le-ltb (rest % 256) 243 l) (omega arith) in
+      taken h k (s .sized) (s .within) wanted
       (left-less out out at at next (rest % 256 ∷ []) (digits 256 (left - 1) (rest / 256)) []
-      (rw (le-ltb (rest % 256) 243 l) (omega arith)) (λ ds. rw (le-ltb (rest % 256) 243 l)) (sym (append-nil (take at out))))
+      wanted (λ ds. rw (le-ltb (rest % 256) 243 l)) (sym (append-nil (take at out))))
       s
 
   -- no byte is left: the words alone
@@ -346,8 +388,41 @@ module _ {A : Type 0} (z : A) (pairs : List A) (words : List ℕ) (out₀ : List
       ∙ ap (bytesFrom (digits 256 left rest) (drop next words)) (sym none))
       ∙ s .same
 
+  pub looked-done : {out : List A} {at next rest left : ℕ} → length out₀ ≤ at → TritLoop out at next rest left
+      → Looked (record { found = true; place = next; left = left }) words place (length out₀ - from)
+  looked-done {out} {at} {next} {rest} {left} h s =
+      let none : bytesWanted (length out₀ - at) ≡ 0 = omega arith in
+      let over : LeftLooked at (digits 256 left rest) next ≡ 4 * next =
+      rw none (omega (arith, looked-none (digits 256 left rest) (drop next words))) in
+      record { few = s .few; all = λ f. omega (arith, s .looked, over) }
+
 -- from the start of the output the rule is the plain one
 pub trits-all : {A : Type 0} (z : A) (pairs out : List A) (ws : List ℕ)
     → tritsFrom z pairs out 0 ws ≡ mapRead (λ ds. digitValues z pairs (take (length out) (split 3 5 ds))) (bytes ws ((length out + 4) / 5))
 trits-all z pairs out ws =
     ap (λ (k : ℕ). mapRead (λ ds. digitValues z pairs (take k (split 3 5 ds))) (bytes ws (bytesWanted k))) (sub-zero (length out))
+
+-- ---- the bytes looked at, where whole words were stored from the start and the others read from there
+module _ (words : List ℕ) (place : ℕ) where
+  pub looked-paused : {A : Type 0} (z : A) (pairs out₀ : List A) {out : List A} {at next : ℕ} → TritLoop z pairs words out₀ 0 place out at next 0 0
+      → bytesLooked (drop place words) (length out₀) + 4 * place ≡ bytesLooked (drop next words) (length out - at) + 4 * next
+  unfolding digits
+  looked-paused z pairs out₀ {at = at} {next = next} s =
+      let whole = rw (sub-zero (length out₀)) at (s .looked) in
+      rw (s .sized) (omega (arith, whole, looked-words (drop next words) (bytesWanted (length out₀ - at))))
+
+  pub looked-short : (k at : ℕ) → Looked (record { found = false; place = at; left = 0 }) words place k
+  looked-short k at = record { few = omega arith; all = λ f. absurd (true≢false (sym f)) }
+
+  pub looked-all : (n next k : ℕ) {e : Ended} → bytesLooked (drop place words) n + 4 * place ≡ bytesLooked (drop next words) k + 4 * next
+      → Looked e words next k → Looked e words place n
+  looked-all n next k stored rest = record { few = rest .few; all = λ f. omega (arith, stored, rest .all f) }
+
+  -- so the bytes of the words taken are those left, those accepted and those rejected
+  module _ (n : ℕ) {e : Ended} (l : Looked e words place n) (found : e .found ≡ true) where
+    pub taken-forward : place ≤ e .place
+    taken-forward = omega (arith, l .all found)
+
+    pub taken-rejected : {k : ℕ} → k ≡ min (4 * (e .place - place) - (e .left + bytesWanted n)) (2 ^ 64 - 1)
+        → k ≡ min (rejectedBytes (drop place words) (bytesWanted n)) (2 ^ 64 - 1)
+    taken-rejected r = omega (arith, l .all found)

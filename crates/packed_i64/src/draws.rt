@@ -7,9 +7,12 @@ use distr::answer::refused;
 use distr::answer::succeeded;
 use distr::refusal::OUT_OF_WORDS;
 use packed::width::Width;
+ghost use mathlib.Core.Path.{_≡_};
 ghost use Prim.Native.Nat.{_*_, _≤_};
 ghost use lib.ListN.{length};
 ghost use Rattle.distr.specs.Draw.{outcome};
+ghost use Rattle.distr.specs.Answers.{sums};
+ghost use Rattle.distr.specs.Skipped.{nothing};
 ghost use Rattle.output_i64.specs.Out.{zero};
 ghost use Rattle.packed.specs.Pairs.{digitValue, Paired};
 ghost use Rattle.packed.specs.Cutting.{digitBase, digitsAWord};
@@ -27,6 +30,7 @@ pub(crate) fn draw(
     requires { ⌜ Paired (digitBase width) zero (now pairs) × (length (now output) ≤ «words_needed» * digitsAWord width) ⌝ }
     ensures { λ r. ⌜ DrawsByTable zero (digitValue zero (now (pairs .entry))) (digitBase width) (digitsAWord width) «words_needed»
         (now (words .entry)) place (now (output .entry)) (outcome r (now (output .exit))) ⌝ }
+    ensures { λ r. ⌜ sums r ≡ nothing ⌝ }
 {
     let count = words.len();
     let number = numbers::draw_number(count, place, output.len(), 0);

@@ -15,7 +15,7 @@ ghost use Rattle.distr.specs.UniformTernary.{bytes};
 ghost use Rattle.output_i64.specs.Out.{zero};
 ghost use Rattle.packed.specs.Pairs.{digitValues, Paired, pairSet};
 ghost use Rattle.packed.specs.Cutting.{Cut, digitBase, digitsAWord};
-ghost use Rattle.packed.specs.Trits.{BytesStored, tritsFrom, reading};
+ghost use Rattle.packed.specs.Trits.{BytesStored, Looked, bytesLooked, tritsFrom, reading};
 
 // Stores the two numbers of the pair q, at `at` and after it.
 fn store_pair(output: &mut [Out], at: usize, pairs: &[Out], q: u32)
@@ -154,6 +154,8 @@ fn store_words(output: &mut [Out], pairs: &[Out], words: &[u32], place: usize) -
     ensures { λ r. ⌜ (r .at ≤ length (now (output .exit))) × (r .place ≤ length (now (words .entry)))
         × (tritsFrom zero (now (pairs .entry)) (now (output .exit)) (r .at) (drop (r .place) (now (words .entry)))
         ≡ tritsFrom zero (now (pairs .entry)) (now (output .entry)) 0 (drop place (now (words .entry)))) ⌝ }
+    ensures { λ r. ⌜ bytesLooked (drop place (now (words .entry))) (length (now (output .entry))) + 4 * place
+        ≡ bytesLooked (drop (r .place) (now (words .entry))) (length (now (output .exit)) - r .at) + 4 * r .place ⌝ }
 {
     let n = output.len();
     let count = words.len();
@@ -171,12 +173,13 @@ fn store_words(output: &mut [Out], pairs: &[Out], words: &[u32], place: usize) -
 }
 
 // Fills the output from `from` on with what the trits from `place` on stand for, byte by byte. `rest` is what is left of the word read
-// last, in `left` bytes. Where a word is missing the output holds what was written before.
+// last, in `left` bytes: what stands there in the end was not looked at. Where a word is missing the output holds what was written before.
 fn fill_bytes(output: &mut [Out], from: usize, pairs: &[Out], words: &[u32], place: usize) -> Ended
     requires { ⌜ (from ≤ length (now output)) × (place ≤ length (now words)) × Paired 3 zero (now pairs) ⌝ }
     ensures { λ r. ⌜ (r .place ≤ length (now (words .entry)))
         × (reading r (now (output .exit)) (now (words .entry))
         ≡ tritsFrom zero (now (pairs .entry)) (now (output .entry)) from (drop place (now (words .entry)))) ⌝ }
+    ensures { λ r. ⌜ Looked r (now (words .entry)) place (length (now (output .entry)) - from) ⌝ }
 {
     let n = output.len();
     let count = words.len();
@@ -190,6 +193,7 @@ fn fill_bytes(output: &mut [Out], from: usize, pairs: &[Out], words: &[u32], pla
                 return Ended {
                     found: false,
                     place,
+                    left: 0,
                 };
             }
             rest = words[next];
@@ -214,6 +218,7 @@ fn fill_bytes(output: &mut [Out], from: usize, pairs: &[Out], words: &[u32], pla
     Ended {
         found: true,
         place: next,
+        left,
     }
 }
 
@@ -225,6 +230,7 @@ pub(crate) fn fill_trits(output: &mut [Out], pairs: &[Out], words: &[u32], place
         × (reading r (now (output .exit)) (now (words .entry))
         ≡ mapRead (λ ds. digitValues zero (now (pairs .entry)) (take (length (now (output .entry))) (split 3 5 ds)))
         (bytes (drop place (now (words .entry))) ((length (now (output .entry)) + 4) / 5))) ⌝ }
+    ensures { λ r. ⌜ Looked r (now (words .entry)) place (length (now (output .entry))) ⌝ }
 {
     let stored = store_words(output, pairs, words, place);
     fill_bytes(output, stored.at, pairs, words, stored.place)

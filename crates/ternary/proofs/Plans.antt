@@ -11,6 +11,7 @@ use mir.Val.{boolByte}
 use borrow.Author.Tests.{lt-ltb, le-ltb}
 use Rattle.distr.specs.declared.answer.Answer.{Answer}
 use Rattle.distr.specs.Words.{got}
+use Rattle.distr.specs.Skipped.{nothing}
 use Rattle.distr.specs.Draw.{outcome, ruleDraw}
 use Rattle.distr.specs.Packed.{minusOne}
 use Rattle.distr.specs.Thresholds.{ternaryValue}
@@ -35,6 +36,13 @@ unfolding samplerRule planOf
 sampler-plan (Constant v) n e = rw e
 sampler-plan (Nonzero N) n e = rw e
 sampler-plan (General N E) n e = rw e
+
+-- it skips nothing
+pub sampler-skips : (s : TernaryEnds) (n : ℕ) (ws : List ℕ) → samplerRule s n .skips ws ≡ nothing
+unfolding samplerRule
+sampler-skips (Constant v) n ws = refl
+sampler-skips (Nonzero N) n ws = refl
+sampler-skips (General N E) n ws = refl
 
 -- the plan has the sampler's values
 plan-value : (s : TernaryEnds) (w : ℕ) → w < 2 ^ 64 → planOf s .reads ≡ true → planValue (planOf s) w ≡ samplerValue s w

@@ -12,8 +12,10 @@ use ternary::ternary::TernaryEnds;
 use ternary::ternary::TernaryValue;
 use ternary::ternary::plan_of;
 ghost use mathlib.Core.Path.{_≡_};
+ghost use lib.ListN.{length, drop};
 ghost use Rattle.distr.specs.Draw.{outcome};
-ghost use Rattle.ternary.specs.Sampler.{valueOf, samplerDraw};
+ghost use Rattle.distr.specs.Answers.{sums, reported};
+ghost use Rattle.ternary.specs.Sampler.{valueOf, samplerDraw, samplerRule};
 ghost use Rattle.output_i64.specs.Out.{heldOne, held};
 
 // A value as the output holds it.
@@ -37,6 +39,7 @@ pub fn sample_to(
 ) -> Answer
     ensures { λ r. ⌜ outcome r (now (output .exit)) ≡
         samplerDraw (held encoding) ends (now (words .entry)) place (now (output .entry)) ⌝ }
+    ensures { λ r. ⌜ sums r ≡ reported (r .number) (samplerRule ends (length (now (output .entry))) .skips (drop place (now (words .entry)))) ⌝ }
 {
     let plan = plan_of(ends);
     let answer = wide_words::answer_of(0, plan.reads, words.len(), place, output.len());

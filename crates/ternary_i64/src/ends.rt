@@ -42,16 +42,18 @@ fn fill_rest(output: &mut [Out], encoding: Encoding, plan: Plan, words: &[u32], 
 }
 
 // The same, four a turn: their words are read before anything is stored, since for all the compiler knows a store may change a word. The
-// words are there, so nothing is tested on the way. At most three elements are left, and are lent on.
+// words are there, so nothing is tested on the way. Where the last four end is worked out beforehand, so that a turn has one index to keep. At most
+// three elements are left, and are lent on.
 pub(crate) fn fill(output: &mut [Out], encoding: Encoding, plan: Plan, words: &[u32], place: usize)
     requires { ⌜ place + 2 * length (now output) ≤ length (now words) ⌝ }
     ensures { λ _. ⌜ wideRead (λ w. heldOne encoding (planValue plan w)) (length (now (output .entry))) (drop place (now (words .entry))) ≡
         got (now (output .exit)) (drop (place + 2 * length (now (output .entry))) (now (words .entry))) ⌝ }
 {
     let n = output.len();
+    let end = n - n % 4;
     let mut i: usize = 0;
     let mut at = place;
-    while i + 4 <= n {
+    while i < end {
         let first = element(encoding, plan, words, at);
         let second = element(encoding, plan, words, at + 2);
         let third = element(encoding, plan, words, at + 4);

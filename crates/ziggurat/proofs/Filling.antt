@@ -1,4 +1,4 @@
--- Filling an output with one reading after the other: what is left to read, put behind what is stored, is what the whole reading gives.
+-- Filling an output with one reading after the other: what is left to read, put behind what is stored, is the whole; words not used are passed over.
 use mathlib.Core.Path.{_≡_, refl, sym, ap, _∙_}
 use mathlib.Core.Bool.{Bool, true, false, cond}
 use mir.Val.{boolByte}
@@ -11,6 +11,7 @@ use lib.ListN.{length, take, drop, set, length-set}
 use lib.Seq.{take-set-le, take-suc-set, take-all, append-snoc}
 use lib.IntN.{ℤ}
 use Rattle.distr.specs.Words.{Read, got, short, mapRead, bindRead, many}
+use Rattle.distr.specs.Skipped.{passedAfter, passedMany}
 
 module _ {A : Type 0} (put : ℤ → A) (one : List ℕ → Read ℤ) (words : List ℕ) (place : ℕ) (out₀ : List A) where
   -- what the output is to hold, with the words left then
@@ -72,3 +73,33 @@ module _ {A : Type 0} (put : ℤ → A) (one : List ℕ → Read ℤ) (words : L
   filled-all i at out k f =
       let none : length out₀ - i ≡ 0 = omega arith in
       sym (rw none at (f .same)) ∙ ap (λ (l : List A). got l (drop at words)) (append-nil (take i out) ∙ take-all i out (omega (arith, f .sized)))
+
+-- each reading passes over so many words as `passed` counts, and uses the others that it takes: the words on the way to a place are those that
+-- were used, and those that the whole passes over less what is left to pass over
+module _ {A : Type 0} (one : List ℕ → Read A) (passed : List ℕ → ℕ) (words : List ℕ) (n : ℕ) where
+  pub record Counted (i at used : ℕ) : Type 0 where
+    pub below : used ≤ at
+    pub same : at + passedMany one passed (n - i) (drop at words) ≡ used + passedMany one passed n words
+
+  pub counted-none : Counted 0 0 0
+  counted-none = record { below = omega arith; same = rw (sub-zero n) }
+
+  -- a turn takes what it passes over and what it uses; the reading ends there, or goes on from the later words
+  pub counted-turn : (i at later used over more : ℕ) (v : A) (ends : Bool) → i < n → Counted i at used
+      → one (drop at words) ≡ cond ends (got v (drop later words)) (one (drop later words))
+      → passed (drop at words) ≡ over + cond ends 0 (passed (drop later words)) → later ≡ at + over + more
+      → Counted (i + boolByte ends) later (used + more)
+  unfolding passedMany passedAfter
+  counted-turn i at later used over more v true h f e p k =
+      let left : n - i ≡ suc (n - (i + 1)) = omega arith in
+      record { below = omega (arith, f .below); same = omega (arith, p, k, rw (left, e) at (f .same)) }
+  counted-turn i at later used over more v false h f e p k =
+      let left : n - i ≡ suc (n - i - 1) = omega arith in
+      let none : n - (i + 0) ≡ suc (n - i - 1) = omega arith in
+      record { below = omega (arith, f .below); same = rw none (omega (arith, p, k, rw (left, e) at (f .same))) }
+
+  pub counted-all : (i at used : ℕ) → n ≤ i → Counted i at used → at - used ≡ passedMany one passed n words
+  unfolding passedMany
+  counted-all i at used h f =
+      let none : n - i ≡ 0 = omega arith in
+      omega (arith, f .below, rw none at (f .same))

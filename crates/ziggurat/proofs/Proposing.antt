@@ -14,14 +14,17 @@ use mir.Syntax.{w32, w64}
 use mir.Val.{Fits}
 use mir.Facts.{fits-widen}
 use Rattle.distr.specs.Words.{Read, got, short, mapRead, bindRead, word, choose, coin}
+use Rattle.distr.specs.Skipped.{passedOver, passedAfter}
+use Rattle.distr.specs.Layered.{passedTry}
 use Rattle.distr.proofs.Reading.{choose-accept}
+use Rattle.distr.proofs.Skipping.{choice-counts}
 use Rattle.words.specs.declared.Taken.{Taken}
 use Rattle.words.specs.declared.Taken.the-variants.{Got as There, Short as Missing}
 use Rattle.words.specs.Reading.{taken}
 use Rattle.words.proofs.Places.{choose-none, coin-there}
 use Rattle.words.proofs.Taking.{took-choice, chosen-below, taken-short}
 use Rattle.ziggurat.specs.declared.sampling.Proposal.the-variants.{Got, Short}
-use Rattle.ziggurat.specs.Tables.{layerSizes}
+use Rattle.ziggurat.specs.Tables.{tables, layerSizes}
 use Rattle.ziggurat.specs.Sampling.{Proposed, propose, Proposes, OnLayer}
 
 -- what holds of the three numbers of layers
@@ -64,9 +67,9 @@ pub word-fits : (ws : List ℕ) (i : ℕ) → ((j : ℕ) → Fits w32 (getD ws j
 word-fits ws i each = fits-widen tt (each i)
 
 -- and so has a magnitude up to an endpoint that has them
-pub magnitude-fits : (ws : List ℕ) (i end m after : ℕ) (r : Taken) → r ≡ There m after → r ≡ taken (length ws) (choose (end + 1) (drop i ws)) → end ≤ 0xffff_ffff
-    → Fits w32 m
-magnitude-fits ws i end m after r e told small = record { fits = omega (arith, chosen-below ws i m after (end + 1) (sym e ∙ told)) }
+pub magnitude-fits : (ws : List ℕ) (i end m after skipped : ℕ) (r : Taken) → r ≡ There m after skipped
+    → r ≡ taken (length ws) (passedOver (end + 1) (drop i ws)) (choose (end + 1) (drop i ws)) → end ≤ 0xffff_ffff → Fits w32 m
+magnitude-fits ws i end m after skipped r e told small = record { fits = omega (arith, chosen-below ws i m after (end + 1) (sym e ∙ told)) }
 
 module _ (endpoints ws : List ℕ) (place : ℕ) where
   -- with fewer than two words left a layer or a sign lacks one
@@ -101,6 +104,13 @@ module _ (endpoints ws : List ℕ) (place : ℕ) where
     tossed =
         rw (add-one place, add-two place) (coin-there ws (suc place) (leb (2 ^ 31) (getD ws (suc place) 0)) (omega arith) refl)
 
+    -- the layer's choice passes over none, so that a try passes over what the magnitude's does
+    passes : passedTry (tables endpoints [] []) (drop place ws) ≡ passedOver (suc end) (drop (place + 2) ws)
+    unfolding passedTry passedAfter
+    passes =
+        let none = choice-counts (length endpoints - 1) (drop place ws) chosen (drop (suc place) ws) layer in
+        rw (layer, tossed) (omega (arith, none, length-drop place ws, length-drop (suc place) ws))
+
     lacking : choose (suc end) (drop (place + 2) ws) ≡ short → Proposes endpoints ws place Short
     unfolding propose bindRead mapRead
     lacking e = record { reads = rw (layer, tossed, e); sound = tt }
@@ -129,12 +139,12 @@ module _ (endpoints ws : List ℕ) (place : ℕ) where
         (choose-none (suc end) (drop (place + 2) ws) (rw (div-eq-of-lt {n = 2 ^ 32} {m = suc end} (omega arith)) (mul-zero (suc end))))
 
     -- the magnitude, as it was taken
-    module _ (r : Taken) (told : r ≡ taken (length ws) (choose (end + 1) (drop (place + 2) ws))) where
+    module _ (r : Taken) (told : r ≡ taken (length ws) (passedOver (end + 1) (drop (place + 2) ws)) (choose (end + 1) (drop (place + 2) ws))) where
       pub no-magnitude : r ≡ Missing → Proposes endpoints ws place Short
       no-magnitude e =
-          lacking sizes two each (rw (add-one end) at (taken-short (length ws) (choose (end + 1) (drop (place + 2) ws)) (sym e ∙ told)))
+          lacking sizes two each (rw (add-one end) at (taken-short (length ws) (passedOver (end + 1) (drop (place + 2) ws)) _ (sym e ∙ told)))
 
-      module _ (m after : ℕ) (e : r ≡ There m after) (small : end ≤ 0xffff_ffff) where
+      module _ (m after skipped : ℕ) (e : r ≡ There m after skipped) (small : end ≤ 0xffff_ffff) where
         pub all-three :
             Proposes endpoints ws place (Got (record { layer = chosen + 1; positive = leb (2 ^ 31) (getD ws (place + 1) 0); magnitude = m; place = after }))
         unfolding propose bindRead mapRead
@@ -146,7 +156,10 @@ module _ (endpoints ws : List ℕ) (place : ℕ) where
               below = omega (arith, chosen-below ws (place + 2) m after (end + 1) (sym e ∙ told));
               small = omega arith;
             } in
+            let chose : choose (suc end) (drop (place + 2) ws) ≡ got m (drop after ws) = rw (add-one end) at (took .reads) in
+            let count = choice-counts (suc end) (drop (place + 2) ws) m (drop after ws) chose in
             record {
-              reads = rw (layer sizes two each, tossed sizes two each, rw (add-one end) at (took .reads));
-              sound = (on, omega (arith, took .later), took .within);
+              reads = rw (layer sizes two each, tossed sizes two each, chose);
+              sound =
+                  (on, omega (arith, count, passes sizes two each, length-drop (place + 2) ws, length-drop after ws, took .within), took .within);
             }

@@ -10,8 +10,9 @@ use lib.ListN.{length, getD}
 use lib.IntN.{ℤ}
 use lib.Ieee.{Float, le}
 use Rattle.distr.specs.Words.{Read, got, short, mapRead, bindRead, word, wide, choose, coin, chance}
+use Rattle.distr.specs.Skipped.{passedOver, passedAfter}
 use Rattle.distr.specs.Gaussian.{withSign}
-use Rattle.distr.specs.Layered.{Layers, layerCount, x, float, accepts, zeroThreshold, judge, Tried, kept, rejected, try, orElse, tries, layeredOne}
+use Rattle.distr.specs.Layered.{Layers, layerCount, x, float, accepts, zeroThreshold, judge, Tried, kept, rejected, try, orElse, tries, layeredOne, passedTry, passedElse, passedTries, passedOne}
 use Rattle.ziggurat.specs.Sampling.{Proposed, propose}
 
 -- a reading leaves at most n words
@@ -82,6 +83,14 @@ or-else-same (got (kept v) rest) n f g h same = refl
 or-else-same (got rejected rest) n f g h same = same rest h
 or-else-same short n f g h same = refl
 
+-- and what it passes over
+passed-else-same : (r : Read Tried) (n : ℕ) (f g : List ℕ → ℕ) → AtMost r n → ((rest : List ℕ) → length rest ≤ n → f rest ≡ g rest)
+    → passedElse r f ≡ passedElse r g
+unfolding passedElse
+passed-else-same (got (kept v) rest) n f g h same = refl
+passed-else-same (got rejected rest) n f g h same = same rest h
+passed-else-same short n f g h same = refl
+
 module _ (deviation : Float) (t : Layers) where
   judge-keeps : (i m : ℕ) (ws : List ℕ) → AtMost (judge deviation t i m ws) (length ws)
   judge-keeps i m ws =
@@ -122,6 +131,32 @@ module _ (deviation : Float) (t : Layers) where
   one-try (w ∷ ws) =
       or-else-same (try deviation t (w ∷ ws)) (length ws) (tries (length ws) deviation t) (layeredOne deviation t) (try-less w ws)
       (λ rest n. tries-enough (length ws) (length rest) rest n (le-refl (length rest)))
+
+  -- the same of what the tries pass over
+  nothing-passed : (again : List ℕ → ℕ) → passedTry t [] + passedElse (try deviation t []) again ≡ 0
+  unfolding passedTry passedOver passedAfter passedElse choose
+  nothing-passed again = rw try-none
+
+  passed-enough : (k l : ℕ) (ws : List ℕ) → length ws ≤ k → length ws ≤ l → passedTries k deviation t ws ≡ passedTries l deviation t ws
+  unfolding passedTries
+  passed-enough zero zero ws h j = refl
+  passed-enough zero (suc l) [] h j = sym (nothing-passed (passedTries l deviation t))
+  passed-enough zero (suc l) (w ∷ ws) h j = absurd (omega arith)
+  passed-enough (suc k) zero [] h j = nothing-passed (passedTries k deviation t)
+  passed-enough (suc k) zero (w ∷ ws) h j = absurd (omega arith)
+  passed-enough (suc k) (suc l) [] h j = nothing-passed (passedTries k deviation t) ∙ sym (nothing-passed (passedTries l deviation t))
+  passed-enough (suc k) (suc l) (w ∷ ws) h j =
+      ap (λ (n : ℕ). passedTry t (w ∷ ws) + n)
+      (passed-else-same (try deviation t (w ∷ ws)) (length ws) (passedTries k deviation t) (passedTries l deviation t) (try-less w ws)
+      (λ rest n. passed-enough k l rest (le-trans n (le-of-suc-le-suc h)) (le-trans n (le-of-suc-le-suc j))))
+
+  passed-try : (ws : List ℕ) → passedOne deviation t ws ≡ passedTry t ws + passedElse (try deviation t ws) (passedOne deviation t)
+  unfolding passedTries
+  passed-try [] = sym (nothing-passed (passedOne deviation t))
+  passed-try (w ∷ ws) =
+      ap (λ (n : ℕ). passedTry t (w ∷ ws) + n)
+      (passed-else-same (try deviation t (w ∷ ws)) (length ws) (passedTries (length ws) deviation t) (passedOne deviation t) (try-less w ws)
+      (λ rest n. passed-enough (length ws) (length rest) rest n (le-refl (length rest))))
 
   -- a try in two halves: what is proposed, and its judging
   abbrev verdict : Proposed → List ℕ → Read Tried
@@ -177,3 +212,10 @@ module _ (deviation : Float) (t : Layers) where
       unfolding orElse mapRead
       one-judged true later e = judged (got true later) e
       one-judged false later e = judged (got false later) e
+
+      -- and of what it passes over
+      pub passed-judged : (passed : Bool) (later : List ℕ) → judge deviation t (p .layer) (p .magnitude) rest ≡ got passed later
+          → passedOne deviation t ws ≡ passedTry t ws + cond passed 0 (passedOne deviation t later)
+      unfolding bindRead mapRead passedElse
+      passed-judged true later e = passed-try ws ∙ rw (try-halves ws, proposed, e)
+      passed-judged false later e = passed-try ws ∙ rw (try-halves ws, proposed, e)

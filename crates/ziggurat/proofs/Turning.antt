@@ -20,15 +20,17 @@ use Rattle.distr.specs.Words.{Read, got, short}
 use Rattle.distr.specs.Constants.{outputLimit, invalidLayerTables, outOfWords}
 use Rattle.distr.specs.Making.{refuse}
 use Rattle.distr.specs.Gaussian.{withSign}
-use Rattle.distr.specs.Layered.{Layers, layerTables, zeroThreshold, judge, layeredOne, layered}
+use Rattle.distr.specs.Skipped.{skippedWords}
+use Rattle.distr.specs.Layered.{Layers, layerTables, zeroThreshold, judge, layeredOne, layered, passedTry, passedOne, passedLayered}
 use Rattle.distr.specs.declared.answer.Answer.{Answer}
-use Rattle.distr.specs.Answers.{refusal, success}
+use Rattle.distr.specs.Answers.{refusal, successAfter, sums, reported}
 use Rattle.distr.specs.Draw.{Outcome, outcome, settled}
 use Rattle.distr.specs.declared.gaussian_parameters.GaussianParameters.{GaussianParameters}
 use Rattle.distr.specs.declared.threshold.Threshold.{Threshold}
 use Rattle.distr.proofs.Reading.{map-read-same}
 use Rattle.distr.proofs.Writing.{map-id, map-replicate}
 use Rattle.distr.proofs.Drawing.{not-refused, settled-got, settled-short}
+use Rattle.distr.proofs.Skipping.{reports-words}
 use Rattle.numbers.proofs.Refusing.{drawNumber, number-by, number-passed, read-refused, read-passed}
 use Rattle.words.specs.Reading.{thresholdValue}
 use Rattle.words.proofs.Places.{lentFrom, lent-all, lent-place}
@@ -39,9 +41,9 @@ use Rattle.ziggurat.specs.Tables.{tables, layerSizes, layeredDraw}
 use Rattle.ziggurat.specs.Sampling.{OnTables, zeroOver, judgeEdge, edgeWords, Ready, Lacks, unproposed, unjudged, Attempts}
 use Rattle.ziggurat.proofs.LayerTables.{sizes}
 use Rattle.ziggurat.proofs.ZeroThreshold.{first-there, zero-made}
-use Rattle.ziggurat.proofs.Filling.{Filled, filled-none, filled-turn, filled-short, filled-all}
+use Rattle.ziggurat.proofs.Filling.{Filled, filled-none, filled-turn, filled-short, filled-all, Counted, counted-none, counted-turn, counted-all}
 use Rattle.ziggurat.proofs.Passing.{on-tables, judge-sides, edge-lacks}
-use Rattle.ziggurat.proofs.Trying.{none-proposed, none-judged, one-judged}
+use Rattle.ziggurat.proofs.Trying.{none-proposed, none-judged, one-judged, passed-judged}
 
 -- signed output holds the coefficients themselves
 pub signed-each : (cs : List ℤ) → cs ≡ map (λ c. c) cs
@@ -64,9 +66,9 @@ module _ {A : Type 0} (write : List ℤ → List A) (parameters : GaussianParame
   abbrev draw : Outcome A
   draw = layeredDraw write parameters t words place out₀
 
-  -- the tables are good, the threshold is that of zero, the output is not too long, what is settled is the draw, and so much of the output is
-  -- filled, each element by `put`
-  pub record Turning (put : ℤ → A) (zero : Threshold) (from : List ℕ) (i at : ℕ) (out : List A) : Type 0 where
+  -- the tables are good, the threshold is that of zero, the output is not too long, what is settled is the draw, so much of the output is
+  -- filled, each element by `put`, and so many words were used
+  pub record Turning (put : ℤ → A) (zero : Threshold) (from : List ℕ) (i at used : ℕ) (out : List A) : Type 0 where
     pub each : (cs : List ℤ) → write cs ≡ map put cs
     pub good : T (layerTables (parameters .«maximum_magnitude») t)
     pub threshold : thresholdValue zero ≡ zeroThreshold t
@@ -75,6 +77,7 @@ module _ {A : Type 0} (write : List ℤ → List A) (parameters : GaussianParame
     pub part : from ≡ lentFrom words place
     pub draws : settled write (length words) place (length out₀) (layered (parameters .«standard_deviation») t (length out₀) from) ≡ draw
     pub filled : Filled put one from 0 out₀ i at out
+    pub counted : Counted one (passedOne (parameters .«standard_deviation») t) from (length out₀) i at used
 
   -- before the loop: the number is the first that refuses, 13 by the tables
   module _ {own number : ℕ} (judged : own ≡ refuse (not (layerTables (parameters .«maximum_magnitude») t)) invalidLayerTables)
@@ -103,7 +106,7 @@ module _ {A : Type 0} (write : List ℤ → List A) (parameters : GaussianParame
       heights-there = first-there (parameters .«maximum_magnitude») t (passed .2)
 
       pub turning-none : {put : ℤ → A} {zero : Threshold} → ((cs : List ℤ) → write cs ≡ map put cs) → zero ≡ zeroOver (getD heights 0 nan)
-          → Turning put zero (lentFrom words place) 0 0 out₀
+          → Turning put zero (lentFrom words place) 0 0 0 out₀
       turning-none {put} {zero} each e = record {
         each = each;
         good = passed .2;
@@ -113,9 +116,11 @@ module _ {A : Type 0} (write : List ℤ → List A) (parameters : GaussianParame
         part = refl;
         draws = rw (lent-all words place) (read-passed write _ words place out₀ by-tables (layered (parameters .«standard_deviation») t (length out₀)) none);
         filled = filled-none put one (lentFrom words place) 0 out₀ (omega arith);
+        counted = counted-none one (passedOne (parameters .«standard_deviation») t) (lentFrom words place) (length out₀);
       }
 
-  module _ {put : ℤ → A} {zero : Threshold} {from : List ℕ} {i at : ℕ} {out : List A} (l : Turning put zero from i at out) where
+  module _ {put : ℤ → A} {zero : Threshold} {from : List ℕ} {i at used : ℕ} {out : List A}
+      (l : Turning put zero from i at used out) where
     abbrev deviation : Float
     deviation = parameters .«standard_deviation»
 
@@ -133,13 +138,20 @@ module _ {A : Type 0} (write : List ℤ → List A) (parameters : GaussianParame
     ended : length words - length (drop at from) ≡ place + at
     ended = rw (l .part) (lent-place words place at (l .begins) (rw (l .part) at turn-within))
 
-    -- the loop ends where the output is full
-    pub turn-full : {answer : Answer} → length out₀ ≤ i → answer ≡ success (place + at) → outcome answer out ≡ draw
-    turn-full h e =
-        rw e
-        (settled-got write (length words) place (length out₀) out _ (drop at from) ended
-        (map-read-same write (map put) (l .each) _ ∙ filled-all put one from 0 out₀ i at out h (l .filled)))
-        ∙ l .draws
+    -- the loop ends where the output is full, and reports what all its choices passed over
+    module _ {answer : Answer} (full : length out₀ ≤ i) (e : answer ≡ successAfter (place + at) (skippedWords (at - used))) where
+      pub turn-full : outcome answer out ≡ draw
+      turn-full =
+          rw e
+          (settled-got write (length words) place (length out₀) out _ (drop at from) ended
+          (map-read-same write (map put) (l .each) _ ∙ filled-all put one from 0 out₀ i at out full (l .filled)))
+          ∙ l .draws
+
+      pub turn-reports : sums answer ≡ reported (answer .number) (skippedWords (passedLayered deviation t (length out₀) (drop place words)))
+      turn-reports =
+          reports-words e
+          (counted-all one (passedOne deviation t) from (length out₀) i at used full (l .counted)
+          ∙ ap (passedLayered deviation t (length out₀)) (l .part ∙ lent-all words place))
 
     -- a turn: an attempt at a place of the output that is not filled yet
     module _ (more : i < length out₀) where
@@ -184,9 +196,18 @@ module _ {A : Type 0} (write : List ℤ → List A) (parameters : GaussianParame
           pub edge-there : inside ≡ false → tried .place + edgeWords (thresholdValue zero) (tried .magnitude) ≤ length from
           edge-there e = omega (arith, ready .within, rw e at (ready .next))
 
+          -- a try takes three words and those that its choices pass over
+          passes : tried .place ≡ at + 3 + passedTry t (drop at from)
+          unfolding passedTry
+          passes = ready .reads .sound .1
+
           -- each turn takes a word
           pub turn-less : length from - after < length from - at
-          turn-less = omega (arith, ready .reads .sound .1, ready .next, ready .within)
+          turn-less = omega (arith, passes, ready .next, ready .within)
+
+          -- and uses three and those of its judging
+          pub turn-uses : (used ≤ at) × (at + 3 ≤ tried .place) × (tried .place ≤ after)
+          turn-uses = (l .counted .below, omega (arith, passes), omega (arith, ready .next))
 
           -- how its trial came to pass or not: inside the layer above it passes, at the edge it is judged
           abbrev edgeJudges : Bool → Type 0
@@ -209,9 +230,14 @@ module _ {A : Type 0} (write : List ℤ → List A) (parameters : GaussianParame
               by-side (inl (e, p)) = rw (e, p, add-zero (tried .place))
               by-side (inr (e, r, j, p)) = rw (e, p, j)
 
+          read : (passed : Bool) → Came passed
+              → one (drop at from) ≡ cond passed (got (withSign (tried .positive) (tried .magnitude)) (drop after from)) (one (drop after from))
+          read passed came =
+              one-judged deviation t (drop at from) _ _ (sym (ready .reads .reads)) passed (drop after from) (judged-so passed came)
+
           -- the trial is stored, and counted where it passes
           pub turn-next : (passed : Bool) → Came passed → {a : A} → a ≡ put (withSign (tried .positive) (tried .magnitude))
-              → Turning put zero from (i + boolByte passed) after (set out i a)
+              → Turning put zero from (i + boolByte passed) after (used + (after - tried .place + 3)) (set out i a)
           turn-next passed came {a} s = record {
             each = l .each;
             good = l .good;
@@ -221,5 +247,9 @@ module _ {A : Type 0} (write : List ℤ → List A) (parameters : GaussianParame
             part = l .part;
             draws = l .draws;
             filled = filled-turn put one from 0 out₀ i at after out a (withSign (tried .positive) (tried .magnitude)) passed more (l .filled)
-                (one-judged deviation t (drop at from) _ _ (sym (ready .reads .reads)) passed (drop after from) (judged-so passed came)) (ready .within) s;
+                (read passed came) (ready .within) s;
+            counted = counted-turn one (passedOne deviation t) from (length out₀) i at after used (passedTry t (drop at from)) (after - tried .place + 3)
+                (withSign (tried .positive) (tried .magnitude)) passed more (l .counted) (read passed came)
+                (passed-judged deviation t (drop at from) _ _ (sym (ready .reads .reads)) passed (drop after from) (judged-so passed came))
+                (omega (arith, passes, ready .next));
           }

@@ -2,20 +2,21 @@
 use Prim.Native.Nat.{ℕ, suc, _+_, _-_, _^_, _<_, _≤_}
 use mathlib.Core.Path.{_≡_}
 use mathlib.Core.Bool.{Bool, false, cond, _&&_}
-use mathlib.Core.List.{List}
+use mathlib.Core.List.{List, []}
 use lib.Dec.{leb, ltb, eqb}
 use lib.ListN.{length, getD, drop}
 use lib.Ieee.{Float, binary64, div}
 use Rattle.distr.specs.declared.threshold.Threshold.{Threshold}
 use Rattle.distr.specs.Constants.{literal}
 use Rattle.distr.specs.Words.{Read, got, short, mapRead, bindRead, word, choose, coin, chance}
-use Rattle.distr.specs.Layered.{Layers, accepts, zeroThreshold}
+use Rattle.distr.specs.Layered.{Layers, accepts, zeroThreshold, passedTry}
 use Rattle.probability.specs.Made.{madeThreshold}
 use Rattle.ziggurat.specs.declared.sampling.Trial.{Trial}
 use Rattle.ziggurat.specs.declared.sampling.Attempted.{Attempted}
 use Rattle.ziggurat.specs.declared.sampling.Attempted.the-variants.{Got as Begun, Short as Unbegun}
 use Rattle.ziggurat.specs.declared.sampling.Proposal.{Proposal}
 use Rattle.ziggurat.specs.declared.sampling.Proposal.the-variants.{Got, Short}
+use Rattle.ziggurat.specs.Tables.{tables}
 
 -- "A try chooses the layer among R, plus 1, then a coin (yes is positive), then a magnitude among endpoint + 1."
 pub record Proposed : Type 0 where
@@ -43,13 +44,15 @@ pub record OnTables (t : Layers) (layer magnitude : ℕ) : Type 0 where
   pub height : layer < length (t .heights)
   pub value : magnitude < length (t .curve)
 
--- What a proposal says was read, with the words left then; and that it is on a layer and passes a word.
+-- What a proposal says was read, with the words left then; and that it is on a layer, and took three words and those that its choices passed over,
+-- which the endpoints alone tell.
 abbrev pub proposalRead : List ℕ → Proposal → Read Proposed
 proposalRead ws (Got c) = got (record { layer = c .layer; positive = c .positive; magnitude = c .magnitude }) (drop (c .place) ws)
 proposalRead ws Short = short
 
 abbrev pub proposalSound : List ℕ → List ℕ → ℕ → Proposal → Type 0
-proposalSound endpoints ws at (Got c) = OnLayer endpoints (c .layer) (c .magnitude) × (at < c .place) × (c .place ≤ length ws)
+proposalSound endpoints ws at (Got c) =
+    OnLayer endpoints (c .layer) (c .magnitude) × (c .place ≡ at + 3 + passedTry (tables endpoints [] []) (drop at ws)) × (c .place ≤ length ws)
 proposalSound endpoints ws at Short = Unit
 
 pub record Proposes (endpoints ws : List ℕ) (place : ℕ) (r : Proposal) : Type 0 where

@@ -2,7 +2,7 @@
 // this file names the output's type, the others are one text for every type.
 use distr::answer::Answer;
 use distr::answer::refused;
-use distr::answer::succeeded;
+use distr::answer::succeeded_after;
 use distr::gaussian_parameters::GaussianParameters;
 use distr::refusal::OUT_OF_WORDS;
 use layer_tables::layer_number;
@@ -13,7 +13,11 @@ use output_i64::coefficient;
 use ziggurat::sampling::Attempted;
 use ziggurat::sampling::zero_threshold;
 ghost use mathlib.Core.Path.{_≡_};
+ghost use lib.ListN.{length, drop};
 ghost use Rattle.distr.specs.Draw.{outcome};
+ghost use Rattle.distr.specs.Answers.{sums, reported};
+ghost use Rattle.distr.specs.Skipped.{skippedWords};
+ghost use Rattle.distr.specs.Layered.{passedLayered};
 ghost use Rattle.ziggurat.specs.Tables.{tables, layeredDraw};
 ghost use Rattle.output_i64.specs.Out.{held};
 
@@ -23,7 +27,9 @@ mod sampling;
 // Draws coefficients, held as the encoding says. The tables are judged first, then the words are read try by try, and each trial's coefficient
 // is stored. One inside the layer above passes; one at the edge is stored before it is judged, so that less is kept meanwhile, and counted where
 // it passes: else the next is written over it. The words from the place on are a slice of their own, which the compiler keeps at hand. Each try
-// reads a word or lacks one, so the words left are a measure. What was stored is cleared where the words run out.
+// reads a word or lacks one, so the words left are a measure. What was stored is cleared where the words run out. A try uses three words and those
+// of its judging, whether it is kept or not: the words read that none used are those that the choices passed over. So the words used are counted,
+// for which the place before a try need not be kept at hand.
 pub fn sample_ziggurat_to(
     output: &mut [Out],
     encoding: Encoding,
@@ -36,6 +42,8 @@ pub fn sample_ziggurat_to(
 ) -> Answer
     ensures { λ r. ⌜ outcome r (now (output .exit)) ≡ layeredDraw (held encoding) parameters
         (tables (now (endpoints .entry)) (now (heights .entry)) (now (curve .entry))) (now (words .entry)) place (now (output .entry)) ⌝ }
+    ensures { λ r. ⌜ sums r ≡ reported (r .number) (skippedWords (passedLayered (parameters .«standard_deviation»)
+        (tables (now (endpoints .entry)) (now (heights .entry)) (now (curve .entry))) (length (now (output .entry))) (drop place (now (words .entry))))) ⌝ }
 {
     let own = layer_number(parameters.maximum_magnitude, endpoints, heights, curve);
     let number = numbers::draw_number(words.len(), place, output.len(), own);
@@ -47,12 +55,14 @@ pub fn sample_ziggurat_to(
     let n = output.len();
     let mut i: usize = 0;
     let mut at: usize = 0;
+    let mut used: usize = 0;
     while i < n {
         let Attempted::Got(tried, inside, after) = sampling::attempt(endpoints, zero, from, at)
         else {
             clear(output);
             return refused(OUT_OF_WORDS, place);
         };
+        used += after - tried.place + 3;
         if inside {
             output[i] = coefficient(encoding, tried.positive, tried.magnitude as u64);
             i += 1;
@@ -73,5 +83,5 @@ pub fn sample_ziggurat_to(
         }
         at = after;
     }
-    succeeded(place + at)
+    succeeded_after(place + at, (at - used) as u64, 0)
 }

@@ -33,7 +33,12 @@ fn propose(endpoints: &[u64], words: &[u32], place: usize) -> Proposal
     if 0xffff_ffff < end {
         return Proposal::Short;
     }
-    let Taken::Got { value, place: next } = words::uniform_below(words, place + 2, end + 1) else {
+    let Taken::Got {
+        value,
+        place: next,
+        skipped: _,
+    } = words::uniform_below(words, place + 2, end + 1)
+    else {
         return Proposal::Short;
     };
     Proposal::Got(Trial {

@@ -1,16 +1,19 @@
 -- `draw::sample_block_binary_values_to` is refused by the first number, or fills the output by the rule.
 use borrow.Author.Needs.{needs}
-use Rattle.block_binary.proofs.Refusals.{refused, ready, drawn}
+use Rattle.distr.proofs.Skipping.{reports-refused}
+use Rattle.block_binary.proofs.Refusals.{refused, ready, drawn, passed}
 use Rattle.block_binary_i64.proofs.draw.sample_block_binary_values_to.Statement.{statement}
 use Rattle.block_binary_i64.proofs.draw.sample_block_binary_values_to.Tie as tie
 
 returns : tie.Need-returns
 returns c =
     let told = c .before .before in
-    let a = told .before .before .before .args in
-    rw (c .refused .ensures)
-    (refused (λ cs. cs) (a .words .now) _ _ (a .occupancy) _ (told .before .block-number .ensures) (told .draw-number .ensures)
-    (c .before .if1 .taken))
+    let a = told .before .before .before .args in (
+      rw (c .refused .ensures)
+          (refused (λ cs. cs) (a .words .now) _ _ (a .occupancy) _ (told .before .block-number .ensures) (told .draw-number .ensures)
+          (c .before .if1 .taken)),
+      reports-refused _ (c .before .if1 .taken) (c .refused .ensures),
+    )
 
 draw-blocks-requires : tie.Need-draw-blocks-requires
 draw-blocks-requires c κs =
@@ -26,9 +29,13 @@ returns-2 c =
     let start = c .before .before .before .before in
     let told = start .before in
     let a = told .before .before .before .args in
-    drawn (λ cs. cs) (a .words .now) _ (a .block-size) (a .occupancy) (a .output .now) (told .before .block-number .ensures)
-    (told .draw-number .ensures)
-    (start .if1 .left) (c .before .before .before .category-count .ensures) (c .before .draw-blocks .ensures)
+    let choices = c .before .before .before .category-count .ensures in
+    let drew = c .before .draw-blocks in (
+      drawn (λ cs. cs) (a .words .now) _ (a .block-size) (a .occupancy) (a .output .now) (told .before .block-number .ensures)
+          (told .draw-number .ensures) (start .if1 .left) choices (drew .ensures .0),
+      passed (λ cs. cs) (a .words .now) _ (a .block-size) (a .occupancy) (a .output .now) (told .before .block-number .ensures)
+          (told .draw-number .ensures) (start .if1 .left) choices (drew .result) (drew .ensures .1),
+    )
 
 pub sample-block-binary-values-to-spec : {M : Type 1} → statement M
 sample-block-binary-values-to-spec =

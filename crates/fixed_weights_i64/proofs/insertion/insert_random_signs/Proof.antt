@@ -4,7 +4,9 @@ use Prim.Native.Nat.{_-_}
 use native.Mathlib.Omega.{arith}
 use borrow.Author.Needs.{needs}
 use lib.IntN.{pos}
+use Rattle.distr.proofs.Skipping.{reports-refused}
 use Rattle.fixed_weights.proofs.SignTurns.{SignTurn, signs-start, sign-index, sign-place, sign-code, signs-next, signs-short, signs-done}
+use Rattle.fixed_weights.proofs.SignTurns.{signs-used, signs-reports}
 use Rattle.fixed_weights_i64.proofs.insertion.insert_random_signs.Statement.{statement}
 use Rattle.fixed_weights_i64.proofs.insertion.insert_random_signs.Tie as tie
 
@@ -21,5 +23,7 @@ insert-random-signs-spec =
     (tie.spec Inv-loop μ-loop (λ c κs. search needs) (λ c. omega arith) (λ c. omega arith) (λ c. search needs) (λ c. search needs) (λ c. search needs)
     (λ c. search signs-start) (λ c. omega arith) (λ c. omega arith) (λ c. omega arith) (λ c κs. search needs) (λ c. search needs)
     (λ c κs. (search sign-index, search sign-place, search sign-code)) (λ c. omega arith) (λ c. omega arith) (λ c. search signs-next)
-    (λ c. search needs) (λ c κs. search needs) (λ c κs. search needs) (λ c. cc) (λ c. search signs-short) (λ c. omega arith) (λ c κs. search needs)
-    (λ c. cc) (λ c. search signs-done))
+    (λ c. search needs) (λ c κs. search needs) (λ c κs. search needs) (λ c. cc)
+    (λ c. (search signs-short, reports-refused _ (λ z. omega arith) (c .refused .ensures))) (λ c. omega arith) (λ c. omega arith) (λ c. omega arith)
+    (λ c. omega (arith, signs-used (c .before .loop .inv) (c .loop-test .left))) (λ c κs. search needs) (λ c. cc)
+    (λ c. (search signs-done, search signs-reports)))

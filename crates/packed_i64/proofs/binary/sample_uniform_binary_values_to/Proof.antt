@@ -5,6 +5,7 @@ use native.Mathlib.Omega.{arith}
 use borrow.Author.Needs.{needs}
 use lib.IntN.{pos}
 use Rattle.distr.proofs.Writing.{map-id}
+use Rattle.distr.proofs.Skipping.{reports-nothing}
 use Rattle.packed.proofs.Pairing.{made-paired, made-agrees}
 use Rattle.packed.proofs.Deciding.{below-two}
 use Rattle.packed_i64.proofs.binary.sample_uniform_binary_values_to.Statement.{statement}
@@ -16,10 +17,12 @@ draw-requires c κs = (made-paired (pos 0) (pos 0 ∷ pos 1 ∷ []) (omega arith
 returns : tie.Need-returns
 returns c =
     let called = c .before in
-    let made = called .before .before .before .before in
-    rw (called .before .before .before .binary-words .ensures) at
-    (called .draw .ensures .draws (λ cs. cs) (λ x. x) pos (λ cs. sym (map-id cs)) refl
-    (made-agrees (pos 0) (pos 0 ∷ pos 1 ∷ []) (omega arith) (made .bits .ensures) _ (below-two _ refl refl)))
+    let made = called .before .before .before .before in (
+      rw (called .before .before .before .binary-words .ensures) at
+          (called .draw .ensures .0 .draws (λ cs. cs) (λ x. x) pos (λ cs. sym (map-id cs)) refl
+          (made-agrees (pos 0) (pos 0 ∷ pos 1 ∷ []) (omega arith) (made .bits .ensures) _ (below-two _ refl refl))),
+      reports-nothing (called .draw .result) (called .draw .ensures .1),
+    )
 
 pub sample-uniform-binary-values-to-spec : {M : Type 1} → statement M
 sample-uniform-binary-values-to-spec =

@@ -6,6 +6,7 @@ use borrow.Author.Needs.{needs}
 use lib.IntN.{ℤ, pos, negsuc}
 use Rattle.distr.specs.Packed.{signValue}
 use Rattle.distr.proofs.Writing.{map-id}
+use Rattle.distr.proofs.Skipping.{reports-nothing}
 use Rattle.packed.proofs.Pairing.{made-paired, made-agrees}
 use Rattle.packed.proofs.Deciding.{below-two}
 use Rattle.packed_i64.proofs.ternary.sample_signs_to.Statement.{statement}
@@ -19,10 +20,12 @@ draw-requires c κs =
 returns : tie.Need-returns
 returns c =
     let called = c .before in
-    let made = called .before .before .before .before in
-    rw (called .before .before .before .sign-words .ensures) at
-    (called .draw .ensures .draws (λ cs. cs) (λ (v : ℤ). v) signValue (λ cs. sym (map-id cs)) refl
-    (made-agrees (pos 0) (negsuc 0 ∷ pos 1 ∷ []) (omega arith) (rw (made .before .minus-one .ensures) at (made .bits .ensures)) _ (below-two _ refl refl)))
+    let made = called .before .before .before .before in (
+      rw (called .before .before .before .sign-words .ensures) at
+          (called .draw .ensures .0 .draws (λ cs. cs) (λ (v : ℤ). v) signValue (λ cs. sym (map-id cs)) refl
+          (made-agrees (pos 0) (negsuc 0 ∷ pos 1 ∷ []) (omega arith) (rw (made .before .minus-one .ensures) at (made .bits .ensures)) _ (below-two _ refl refl))),
+      reports-nothing (called .draw .result) (called .draw .ensures .1),
+    )
 
 pub sample-signs-to-spec : {M : Type 1} → statement M
 sample-signs-to-spec =

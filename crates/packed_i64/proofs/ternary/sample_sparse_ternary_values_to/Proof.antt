@@ -6,6 +6,7 @@ use borrow.Author.Needs.{needs}
 use lib.IntN.{ℤ, pos, negsuc}
 use Rattle.distr.specs.Packed.{sparseValue}
 use Rattle.distr.proofs.Writing.{map-id}
+use Rattle.distr.proofs.Skipping.{reports-nothing}
 use Rattle.packed.proofs.Pairing.{made-paired, made-agrees}
 use Rattle.packed.proofs.Deciding.{below-four}
 use Rattle.packed_i64.proofs.ternary.sample_sparse_ternary_values_to.Statement.{statement}
@@ -19,10 +20,12 @@ draw-requires c κs =
 returns : tie.Need-returns
 returns c =
     let called = c .before in
-    let made = called .before .before .before .before in
-    rw (called .before .before .before .sparse-words .ensures) at
-    (called .draw .ensures .draws (λ cs. cs) (λ (v : ℤ). v) sparseValue (λ cs. sym (map-id cs)) refl
-    (made-agrees (pos 0) (pos 0 ∷ pos 0 ∷ pos 1 ∷ negsuc 0 ∷ []) (omega arith) (rw (made .before .minus-one .ensures) at (made .groups .ensures)) _ (below-four _ refl refl refl refl)))
+    let made = called .before .before .before .before in (
+      rw (called .before .before .before .sparse-words .ensures) at
+          (called .draw .ensures .0 .draws (λ cs. cs) (λ (v : ℤ). v) sparseValue (λ cs. sym (map-id cs)) refl
+          (made-agrees (pos 0) (pos 0 ∷ pos 0 ∷ pos 1 ∷ negsuc 0 ∷ []) (omega arith) (rw (made .before .minus-one .ensures) at (made .groups .ensures)) _ (below-four _ refl refl refl refl))),
+      reports-nothing (called .draw .result) (called .draw .ensures .1),
+    )
 
 pub sample-sparse-ternary-values-to-spec : {M : Type 1} → statement M
 sample-sparse-ternary-values-to-spec =

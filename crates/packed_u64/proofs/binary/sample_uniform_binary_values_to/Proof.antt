@@ -4,6 +4,7 @@ use mathlib.Core.Path.{refl}
 use native.Mathlib.Omega.{arith}
 use borrow.Author.Needs.{needs}
 use lib.IntN.{pos}
+use Rattle.distr.proofs.Skipping.{reports-nothing}
 use Rattle.output_u64.specs.Out.{heldOne, held}
 use Rattle.packed.proofs.Pairing.{made-paired, made-agrees}
 use Rattle.packed.proofs.Deciding.{below-two}
@@ -17,10 +18,12 @@ returns : tie.Need-returns
 returns c =
     let called = c .before .before in
     let encoding = called .before .before .before .before .before .before .before .args .encoding in
-    let made = called .before .before .before .before in
-    rw (called .before .before .before .binary-words .ensures) at
-    (called .draw .ensures .draws (held encoding) (heldOne encoding) pos (λ cs. refl) refl
-    (made-agrees 0 (0 ∷ 1 ∷ []) (omega arith) (made .bits .ensures) _ (below-two _ refl refl)))
+    let made = called .before .before .before .before in (
+      rw (called .before .before .before .binary-words .ensures) at
+          (called .draw .ensures .0 .draws (held encoding) (heldOne encoding) pos (λ cs. refl) refl
+          (made-agrees 0 (0 ∷ 1 ∷ []) (omega arith) (made .bits .ensures) _ (below-two _ refl refl))),
+      reports-nothing (called .draw .result) (called .draw .ensures .1),
+    )
 
 pub sample-uniform-binary-values-to-spec : {M : Type 1} → statement M
 sample-uniform-binary-values-to-spec =

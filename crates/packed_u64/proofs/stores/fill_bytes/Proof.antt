@@ -2,6 +2,7 @@
 use Prim.Native.Nat.{_+_, _*_, _-_}
 use native.Mathlib.Omega.{arith}
 use Rattle.packed.proofs.TritLoop.{TritLoop, trit-none, trit-word, trit-skip, trit-byte, trit-last, trit-short, trit-done}
+use Rattle.packed.proofs.TritLoop.{looked-short, looked-done}
 use Rattle.packed_u64.proofs.stores.fill_bytes.Statement.{statement}
 use Rattle.packed_u64.proofs.stores.fill_bytes.Tie as tie
 
@@ -15,8 +16,8 @@ abbrev μ-loop : tie.MeasureT-loop
 pub fill-bytes-spec : {M : Type 1} → statement M
 fill-bytes-spec =
     tie.close
-    (tie.spec Inv-loop μ-loop (λ c. search trit-none) (λ c. cc) (λ c. (search, search trit-short)) (λ c. omega arith) (λ c. omega arith)
-    (λ c. omega arith) (λ c. omega arith) (λ c. search trit-word) (λ c. omega arith) (λ c. omega arith) (λ c κs. (omega arith, omega arith, search))
-    (λ c. omega arith) (λ c. search trit-byte) (λ c. omega arith) (λ c κs. (omega arith, omega arith, search)) (λ c. omega arith)
-    (λ c κs. omega arith) (λ c. omega arith) (λ c. search trit-last) (λ c. omega arith) (λ c. search trit-skip) (λ c. cc)
-    (λ c. (search, search trit-done)))
+    (tie.spec Inv-loop μ-loop (λ c. search trit-none) (λ c. cc) (λ c. ((search, search trit-short), looked-short _ _ _ _)) (λ c. omega arith)
+    (λ c. omega arith) (λ c. omega arith) (λ c. omega arith) (λ c. search trit-word) (λ c. omega arith) (λ c. omega arith)
+    (λ c κs. (omega arith, omega arith, search)) (λ c. omega arith) (λ c. search trit-byte) (λ c. omega arith)
+    (λ c κs. (omega arith, omega arith, search)) (λ c. omega arith) (λ c κs. omega arith) (λ c. omega arith) (λ c. search trit-last)
+    (λ c. omega arith) (λ c. search trit-skip) (λ c. cc) (λ c. ((search, search trit-done), search looked-done)))

@@ -1,7 +1,7 @@
 -- `stores::store_words` stores whole words: what the rule gives from the words left stays the same from turn to turn.
 use Prim.Native.Nat.{_-_}
 use native.Mathlib.Omega.{arith}
-use Rattle.packed.proofs.TritLoop.{TritLoop, trit-none, trit-whole, trit-paused}
+use Rattle.packed.proofs.TritLoop.{TritLoop, trit-none, trit-whole, trit-paused, looked-paused}
 use Rattle.packed_u64.proofs.stores.store_words.Statement.{statement}
 use Rattle.packed_u64.proofs.stores.store_words.Tie as tie
 
@@ -18,7 +18,9 @@ same-length : tie.Need-same-length Inv-loop μ-loop
 same-length c = c .before .before .loop .inv .sized
 
 returns : tie.Need-returns Inv-loop μ-loop
-returns c = let inv = c .before .before .loop .inv in (omega (arith, inv .within, inv .sized), inv .found, trit-paused _ _ _ _ _ _ inv)
+returns c =
+    let inv = c .before .before .loop .inv in
+    ((omega (arith, inv .within, inv .sized), inv .found, trit-paused _ _ _ _ _ _ inv), looked-paused _ _ _ _ _ inv)
 
 store-word-requires : tie.Need-store-word-requires Inv-loop μ-loop
 store-word-requires c κs = let inv = c .before .before .before .before .loop .inv in (omega arith, inv .paired)
@@ -34,7 +36,9 @@ same-length-2 : tie.Need-same-length-2 Inv-loop μ-loop
 same-length-2 c = c .before .loop .inv .sized
 
 returns-2 : tie.Need-returns-2 Inv-loop μ-loop
-returns-2 c = let inv = c .before .loop .inv in (omega (arith, inv .within, inv .sized), inv .found, trit-paused _ _ _ _ _ _ inv)
+returns-2 c =
+    let inv = c .before .loop .inv in
+    ((omega (arith, inv .within, inv .sized), inv .found, trit-paused _ _ _ _ _ _ inv), looked-paused _ _ _ _ _ inv)
 
 pub store-words-spec : {M : Type 1} → statement M
 store-words-spec =

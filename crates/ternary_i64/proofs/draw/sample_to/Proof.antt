@@ -5,23 +5,28 @@ use mir.Facts.{toZ-ofZ}
 use borrow.Author.Needs.{needs, sfits-of}
 use borrow.Author.Tests.{not-true, not-false}
 use Rattle.distr.proofs.Writing.{map-id}
-use Rattle.ternary.proofs.Plans.{plan-enough, plan-cleared, plan-refused, plan-constant, plan-read}
+use Rattle.numbers.proofs.WideDraws.{answer-reports}
+use Rattle.ternary.proofs.Plans.{plan-enough, plan-cleared, plan-refused, plan-constant, plan-read, sampler-skips}
 use Rattle.ternary_i64.proofs.draw.sample_to.Statement.{statement}
 use Rattle.ternary_i64.proofs.draw.sample_to.Tie as tie
 
 returns : tie.Need-returns
 returns c =
     let told = c .before .before .before .before .before in
-    let a = told .before .before .before .args in
-    plan-cleared (λ cs. cs) (λ x. x) (λ cs. sym (map-id cs)) (a .words .now) (a .place) (a .output .now) _ (told .before .plan-of .ensures)
-    (told .answer-of .ensures) (c .before .before .before .if1 .taken) (c .before .clear .ensures)
+    let a = told .before .before .before .args in (
+      plan-cleared (λ cs. cs) (λ x. x) (λ cs. sym (map-id cs)) (a .words .now) (a .place) (a .output .now) _ (told .before .plan-of .ensures)
+          (told .answer-of .ensures) (c .before .before .before .if1 .taken) (c .before .clear .ensures),
+      answer-reports _ _ _ _ _ (told .answer-of .ensures) (sampler-skips _ _ _),
+    )
 
 returns-2 : tie.Need-returns-2
 returns-2 c =
     let told = c .before .before .before .before in
-    let a = told .before .before .before .args in
-    plan-refused (λ cs. cs) (λ x. x) (λ cs. sym (map-id cs)) (a .words .now) (a .place) (a .output .now) _ (told .before .plan-of .ensures)
-    (told .answer-of .ensures) (c .before .before .if1 .left) (c .if2 .taken) refl
+    let a = told .before .before .before .args in (
+      plan-refused (λ cs. cs) (λ x. x) (λ cs. sym (map-id cs)) (a .words .now) (a .place) (a .output .now) _ (told .before .plan-of .ensures)
+          (told .answer-of .ensures) (c .before .before .if1 .left) (c .if2 .taken) refl,
+      answer-reports _ _ _ _ _ (told .answer-of .ensures) (sampler-skips _ _ _),
+    )
 
 returns-3 : tie.Need-returns-3
 returns-3 c =
@@ -29,10 +34,12 @@ returns-3 c =
     let constant = value .before .before in
     let good = constant .before .before in
     let told = good .before .before .before .before in
-    let a = told .before .before .before .args in
-    plan-constant (λ cs. cs) (λ x. x) (λ cs. sym (map-id cs)) (a .words .now) (a .place) (a .output .now) _ (told .before .plan-of .ensures)
-    (told .answer-of .ensures) (good .if2 .left) (not-true (told .before .plan-of .result .reads) (constant .if3 .taken))
-    (c .before .fill .ensures ∙ ap (replicate (length (a .output .now))) (toZ-ofZ (sfits-of (value .encoded .ok)) ∙ value .encoded .ensures))
+    let a = told .before .before .before .args in (
+      plan-constant (λ cs. cs) (λ x. x) (λ cs. sym (map-id cs)) (a .words .now) (a .place) (a .output .now) _ (told .before .plan-of .ensures)
+          (told .answer-of .ensures) (good .if2 .left) (not-true (told .before .plan-of .result .reads) (constant .if3 .taken))
+          (c .before .fill .ensures ∙ ap (replicate (length (a .output .now))) (toZ-ofZ (sfits-of (value .encoded .ok)) ∙ value .encoded .ensures)),
+      answer-reports _ _ _ _ _ (told .answer-of .ensures) (sampler-skips _ _ _),
+    )
 
 fill-requires-2 : tie.Need-fill-requires-2
 fill-requires-2 c κs =
@@ -49,10 +56,12 @@ returns-4 c =
     let good = reading .before .before in
     let told = good .before .before .before .before in
     let start = told .before .before in
-    let a = start .before .args in
-    plan-read (λ cs. cs) (λ x. x) (λ cs. sym (map-id cs)) (a .words .now) (a .place) (a .output .now) _ (told .before .plan-of .ensures)
-    (told .answer-of .ensures) (good .if2 .left) (not-false (told .before .plan-of .result .reads) (reading .if3 .left))
-    (λ i. start .shared-slice-known .given i .fits) (c .before .fill2 .ensures)
+    let a = start .before .args in (
+      plan-read (λ cs. cs) (λ x. x) (λ cs. sym (map-id cs)) (a .words .now) (a .place) (a .output .now) _ (told .before .plan-of .ensures)
+          (told .answer-of .ensures) (good .if2 .left) (not-false (told .before .plan-of .result .reads) (reading .if3 .left))
+          (λ i. start .shared-slice-known .given i .fits) (c .before .fill2 .ensures),
+      answer-reports _ _ _ _ _ (told .answer-of .ensures) (sampler-skips _ _ _),
+    )
 
 pub sample-to-spec : {M : Type 1} → statement M
 sample-to-spec =

@@ -4,7 +4,8 @@ use lib.ListN.{length, replicate}
 use borrow.Author.Needs.{needs}
 use borrow.Author.Tests.{not-true, not-false}
 use Rattle.output_u64.specs.Out.{heldOne, held}
-use Rattle.ternary.proofs.Plans.{plan-enough, plan-cleared, plan-refused, plan-constant, plan-read}
+use Rattle.numbers.proofs.WideDraws.{answer-reports}
+use Rattle.ternary.proofs.Plans.{plan-enough, plan-cleared, plan-refused, plan-constant, plan-read, sampler-skips}
 use Rattle.ternary_u64.proofs.draw.sample_to.Statement.{statement}
 use Rattle.ternary_u64.proofs.draw.sample_to.Tie as tie
 
@@ -12,18 +13,22 @@ returns : tie.Need-returns
 returns c =
     let if1 = c .before .before .before .before .if1 in
     let told = c .before .before .before .before .before .before in
-    let a = told .before .before .before .before .args in
-    plan-cleared (held (a .encoding)) (heldOne (a .encoding)) (λ cs. refl) (a .words .now) (a .place) (a .output .now) _
-    (told .before .plan-of .ensures) (told .answer-of .ensures)
-    (if1 .taken) (c .before .before .clear .ensures)
+    let a = told .before .before .before .before .args in (
+      plan-cleared (held (a .encoding)) (heldOne (a .encoding)) (λ cs. refl) (a .words .now) (a .place) (a .output .now) _
+          (told .before .plan-of .ensures) (told .answer-of .ensures)
+          (if1 .taken) (c .before .before .clear .ensures),
+      answer-reports _ _ _ _ _ (told .answer-of .ensures) (sampler-skips _ _ _),
+    )
 
 returns-2 : tie.Need-returns-2
 returns-2 c =
     let told = c .before .before .before .before in
-    let a = told .before .before .before .before .args in
-    plan-refused (held (a .encoding)) (heldOne (a .encoding)) (λ cs. refl) (a .words .now) (a .place) (a .output .now) _
-    (told .before .plan-of .ensures) (told .answer-of .ensures)
-    (c .before .before .if1 .left) (c .if2 .taken) refl
+    let a = told .before .before .before .before .args in (
+      plan-refused (held (a .encoding)) (heldOne (a .encoding)) (λ cs. refl) (a .words .now) (a .place) (a .output .now) _
+          (told .before .plan-of .ensures) (told .answer-of .ensures)
+          (c .before .before .if1 .left) (c .if2 .taken) refl,
+      answer-reports _ _ _ _ _ (told .answer-of .ensures) (sampler-skips _ _ _),
+    )
 
 returns-3 : tie.Need-returns-3
 returns-3 c =
@@ -31,12 +36,14 @@ returns-3 c =
     let constant = value .before .before in
     let good = constant .before .before in
     let told = good .before .before .before .before in
-    let a = told .before .before .before .before .args in
-    plan-constant (held (a .encoding)) (heldOne (a .encoding)) (λ cs. refl) (a .words .now) (a .place) (a .output .now) _
-    (told .before .plan-of .ensures) (told .answer-of .ensures)
-    (good .if2 .left) (not-true (told .before .plan-of .result .reads)
-    (constant .if3 .taken))
-    (c .before .before .fill .ensures ∙ ap (replicate (length (a .output .now))) (value .encoded .ensures))
+    let a = told .before .before .before .before .args in (
+      plan-constant (held (a .encoding)) (heldOne (a .encoding)) (λ cs. refl) (a .words .now) (a .place) (a .output .now) _
+          (told .before .plan-of .ensures) (told .answer-of .ensures)
+          (good .if2 .left) (not-true (told .before .plan-of .result .reads)
+          (constant .if3 .taken))
+          (c .before .before .fill .ensures ∙ ap (replicate (length (a .output .now))) (value .encoded .ensures)),
+      answer-reports _ _ _ _ _ (told .answer-of .ensures) (sampler-skips _ _ _),
+    )
 
 fill-requires-2 : tie.Need-fill-requires-2
 fill-requires-2 c κs =
@@ -54,10 +61,12 @@ returns-4 c =
     let good = reading .before .before in
     let told = good .before .before .before .before in
     let start = told .before .before in
-    let a = start .before .before .args in
-    plan-read (held (a .encoding)) (heldOne (a .encoding)) (λ cs. refl) (a .words .now) (a .place) (a .output .now) _ (told .before .plan-of .ensures)
-    (told .answer-of .ensures) (good .if2 .left) (not-false (told .before .plan-of .result .reads) (reading .if3 .left))
-    (λ i. start .shared-slice-known .given i .fits) (c .before .before .fill2 .ensures)
+    let a = start .before .before .args in (
+      plan-read (held (a .encoding)) (heldOne (a .encoding)) (λ cs. refl) (a .words .now) (a .place) (a .output .now) _ (told .before .plan-of .ensures)
+          (told .answer-of .ensures) (good .if2 .left) (not-false (told .before .plan-of .result .reads) (reading .if3 .left))
+          (λ i. start .shared-slice-known .given i .fits) (c .before .before .fill2 .ensures),
+      answer-reports _ _ _ _ _ (told .answer-of .ensures) (sampler-skips _ _ _),
+    )
 
 pub sample-to-spec : {M : Type 1} → statement M
 sample-to-spec =
