@@ -2,6 +2,7 @@
 use Prim.Native.Nat.{ℕ}
 use mathlib.Core.List.{List}
 use Rattle.distr.specs.Constants.{invalidSheet}
+use Rattle.distr.specs.Skipped.{Skipped, nothing}
 use Rattle.distr.specs.Distribution.{Distr, secret, error}
 use Rattle.distr.specs.Draw.{Outcome, atOnce}
 use Rattle.methods.specs.declared.PreparedMethod.{PreparedMethod}
@@ -26,3 +27,9 @@ unfoldable pub anyAtOnce : {A : Type 0} → AnyDistr → ℕ → List A → (Dis
 anyAtOnce (Asked.Secret d) place out draw = atOnce (secret d) place out (draw (secret d))
 anyAtOnce (Asked.Error d) place out draw = atOnce (error d) place out (draw (error d))
 anyAtOnce Asked.Unknown place out draw = record { number = invalidSheet; place = place; output = out }
+
+-- 02 [1]: what a draw of the distribution skips; nothing where there is none.
+unfoldable pub anySkips : AnyDistr → (Distr → Skipped) → Skipped
+anySkips (Asked.Secret d) skips = skips (secret d)
+anySkips (Asked.Error d) skips = skips (error d)
+anySkips Asked.Unknown skips = nothing

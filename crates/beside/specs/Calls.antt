@@ -11,6 +11,7 @@ use Rattle.distr.specs.declared.secret_key_distr.SecretKeyDistr.the-variants.{F
 use Rattle.distr.specs.declared.secret_key_distr.BlockOccupancy.the-variants.{AtMostOne, ExactlyOne}
 use Rattle.distr.specs.declared.error_distribution.ErrorDistribution.the-variants.{CenteredBinomial, Gaussian as ErrorGaussian}
 use Rattle.distr.specs.Constants.{etaLimit}
+use Rattle.distr.specs.Skipped.{Skipped}
 use Rattle.distr.specs.Draw.{Outcome}
 use Rattle.any_sampler.specs.declared.AnyDistr.{AnyDistr}
 use Rattle.any_sampler.specs.declared.AnyDistr.the-variants.{Secret, Error, Unknown}
@@ -40,3 +41,7 @@ named kind a b p q = getD (kinds a b p q) kind Unknown
 -- The answer of a call: its number, the place that it writes and what its output holds then.
 abbrev pub answered : {A : Type 0} → ℕ → ℕ → List A → Outcome A
 answered number place output = record { number = number; place = place; output = output }
+
+-- 02 [1]: the two sums that a call writes.
+abbrev pub written : ℕ → ℕ → Skipped
+written words bytes = record { words = words; bytes = bytes }

@@ -1,8 +1,9 @@
 // Serves the comparison with the Rust, not a user: the calls that a comparison beside the Rust makes: a draw by kind, with its sampler made in the call.
-// A draw answers the number, and writes the place through new_place: the old one where the draw is refused.
+// A draw answers the number, and writes the place through new_place: the old one where the draw is refused. It writes the words that its choices
+// passed over and the bytes that it rejected through skipped_words and skipped_bytes: zeros where it is refused.
 // What a foreign caller must keep, since no contract can ask it of one: every pointer, that of an empty slice too, is aligned for its
-// elements and never null; it is valid for its length, for writing where the slice is the output; and output and new_place overlap
-// neither each other nor anything else that the call is lent.
+// elements and never null; it is valid for its length, for writing where the slice is the output; and output, new_place,
+// skipped_words and skipped_bytes overlap neither each other nor anything else that the call is lent.
 mod crt;
 mod encoded;
 mod kind;

@@ -100,7 +100,11 @@ pub(crate) fn ternary_probabilities(label: &[u8], minus_one: f64, one: f64) {
 // A choice among 3, or 23 at the place where it was asked.
 pub(crate) fn choice(label: &[u8], words: &[u32]) {
     match words::uniform_below(words, 0, 3) {
-        Taken::Got { value, place } => {
+        Taken::Got {
+            value,
+            place,
+            skipped: _,
+        } => {
             print::head(label, 0, place as u64);
             print::unsigned(value);
         }

@@ -4,6 +4,7 @@ mod draws;
 mod making;
 mod print;
 mod rows;
+mod skips;
 
 // "Marked cases", 1 to 3, 6 to 9 and 12: whole draws. Each output is 9 throughout before its draw.
 fn marked_draws() {
@@ -80,6 +81,32 @@ fn rows_of_a_buffer() {
     rows::row(b"row 0 of 6 coefficients, 2 moduli", 6, 2, 0);
 }
 
+// Document 02, "Words thrown away": beside number and place the words and the bytes skipped, each figure worked out from the rules. The word
+// 2^32-1 is passed over by a choice among 3, among 5 and among 7, not by one among 2; of the bytes 243, 5, 255, 0 those before the last accepted
+// one are looked at; words of signs are used; a draw that ends in 23 reports zeros.
+fn thrown_away() {
+    skips::composition(
+        b"composition, a word passed over twice",
+        &[0xffff_ffff, 0xffff_ffff, 0xffff_ffff, 0],
+    );
+    skips::composition(
+        b"composition, short after a word passed over",
+        &[1, 0xffff_ffff],
+    );
+    skips::ternary_weight(
+        b"ternary weight 1 of 3, signs and a word passed over",
+        &[0xffff_ffff, 0xffff_ffff, 0],
+    );
+    skips::blocks(
+        b"two blocks of 3, a word passed over in each",
+        &[0xffff_ffff, 0, 0xffff_ffff, 1],
+    );
+    skips::uniform_ternary(b"one byte of 243, 5, 255, 0", &mut [9; 5], &[0x00ff_05f3]);
+    skips::uniform_ternary(b"two bytes of 243, 5, 255, 0", &mut [9; 6], &[0x00ff_05f3]);
+    skips::uniform_ternary(b"a word rejected whole, short", &mut [9; 5], &[0xffff_ffff]);
+    skips::layered(b"layered, two tries rejected, two words passed over");
+}
+
 fn main() {
     marked_draws();
     marked_rules();
@@ -87,4 +114,5 @@ fn main() {
     traps();
     probabilities();
     rows_of_a_buffer();
+    thrown_away();
 }

@@ -1,4 +1,5 @@
 // Lines on standard output.
+use distr::answer::Answer;
 use gaussian_core::encode::magnitude;
 use libc::STDOUT_FILENO;
 
@@ -32,13 +33,26 @@ fn signed(value: i64) {
     io::print_decimal(STDOUT_FILENO, magnitude(value));
 }
 
-// A whole line of a signed draw.
-pub(crate) fn line(label: &[u8], number: u32, place: usize, values: &[i64]) {
-    head(label, number, place as u64);
+// The rest of a line: signed numbers.
+fn coefficients(values: &[i64]) {
     let mut i = 0;
     while i < values.len() {
         signed(values[i]);
         i += 1;
     }
     end();
+}
+
+// A whole line of a signed draw.
+pub(crate) fn line(label: &[u8], number: u32, place: usize, values: &[i64]) {
+    head(label, number, place as u64);
+    coefficients(values);
+}
+
+// A whole line of a signed draw, with the words and the bytes that it skipped before its values.
+pub(crate) fn line_with_skipped(label: &[u8], answer: Answer, values: &[i64]) {
+    head(label, answer.number, answer.place as u64);
+    unsigned(answer.skipped_words);
+    unsigned(answer.skipped_bytes);
+    coefficients(values);
 }

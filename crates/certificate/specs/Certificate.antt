@@ -1,16 +1,14 @@
 -- Demand 3, whole: the record `Certificate` below is the claim, and the term `certificate` of proofs/Certificate is its proof. What it counts stands in
--- the specs of `counts`: draw lists, which coefficient lists are inside a distribution, the formula. The rules stand in the specs of `distr`.
+-- the specs of `counts`: draw lists, which coefficient lists are inside a distribution, the formula. The rules stand in the specs of `distr`, and what the
+-- contracts of the code promise stands in Contracts.
 use Prim.Native.Nat.{ℕ, _/_, _^_, _≤_, _<_}
 use mathlib.Core.Path.{_≡_}
 use mathlib.Core.Logic.{_⊎_}
 use mathlib.Core.Bool.{Bool, not, cond}
 use mathlib.Core.List.{List, _∷_}
-use denote.Ref.{RefT, now}
-use contract.Lifetimes.{Lfts}
 use lib.Dec.{T}
 use lib.ListN.{length, drop}
 use lib.IntN.{ℤ}
-use lib.Ieee.{Float}
 use Rattle.distr.specs.declared.answer.Answer.{Answer}
 use Rattle.distr.specs.declared.secret_key_distr.SecretKeyDistr.{SecretKeyDistr}
 use Rattle.distr.specs.declared.secret_key_distr.SecretKeyDistr.the-variants.{FixedCompositionTernary}
@@ -19,14 +17,12 @@ use Rattle.distr.specs.Words.{got, choose}
 use Rattle.distr.specs.Distribution.{Distr, secret, error, Tables, onDeviation, isLayered, rule}
 use Rattle.distr.specs.Making.{makingNumber}
 use Rattle.distr.specs.Numbers.{firstOf, signedNumbers}
-use Rattle.distr.specs.Draw.{Outcome, outcome, Meets}
+use Rattle.distr.specs.Draw.{Outcome, Meets}
 use Rattle.counts.specs.DrawLists.{inBox, Carries, Exactly}
 use Rattle.counts.specs.Inside.{inside}
 use Rattle.counts.specs.Formula.{formula}
 use Rattle.words.specs.declared.Taken.{Taken}
-use Rattle.words.specs.Reading.{taken}
 use Rattle.words.proofs.uniform_below.Reads as uniform-below
-use Rattle.signed_discrete_gaussian.specs.Lent.{lent}
 use Rattle.secret_key_sampler.specs.declared.SecretKeySampler.{SecretKeySampler}
 use Rattle.secret_key_sampler.specs.Sampler.{isMade, making}
 use Rattle.secret_key_sampler.proofs.SecretKeySampler.try_new.Reads as secret-key-try-new
@@ -35,6 +31,7 @@ use Rattle.error_sampler.specs.declared.ErrorSampler.{ErrorSampler}
 use Rattle.error_sampler.specs.Sampler.{isMade as isMadeError, making as makingError}
 use Rattle.error_sampler.proofs.ErrorSampler.try_new.Reads as error-try-new
 use Rattle.error_sampler.proofs.ErrorSampler.sample_signed_to.Reads as error-sample-signed-to
+use Rattle.certificate.specs.Contracts.{Contract, SignedArguments, SignedCall, ChoiceArguments, BoundedChoice}
 
 -- ---- a request and its calls
 
@@ -103,33 +100,6 @@ Skips k w = (ws : List ℕ) → choose k (w ∷ ws) ≡ choose k ws
 pub record FairChoice (k : ℕ) : Type 0 where
   pub each : (r : ℕ) → r < k → Exactly ℕ (2 ^ 32 / k) (λ w. (w < 2 ^ 32) × Gives k r w)
   pub others : (w : ℕ) → w < 2 ^ 32 → ((r : ℕ) → r < k → Gives k r w → ⊥) → Skips k w
-
--- ---- the code
-
--- What the checker reads off a function's contract: `Pre` is what it asks of the arguments, and here that is nothing; `Post` is what it promises of the
--- arguments, the answer and the arguments at exit, and that is `Promise`.
-abbrev pub Contract : (m : ℕ) (A R : Type 0) → (A → R → A → Type 0) → (Lfts m → A → Type 0) → (Lfts m → A → R → A → Type 0) → Type 1
-Contract m A R Promise Pre Post =
-    ((κs : Lfts m) (before : A) → Pre κs before ≡ Unit {0})
-    × ((κs : Lfts m) (before : A) (answer : R) (after : A) → Post κs before answer after ≡ Promise before answer after)
-
--- The arguments of a `sample_signed_to`: self, output, bounds, endpoints, heights, curve, words, place.
-abbrev pub SignedArguments : Type 0 → Type 0
-SignedArguments S =
-    S × (RefT (List ℤ) × (RefT (List ℕ) × (RefT (List ℕ) × (RefT (List Float) × (RefT (List Float) × (RefT (List ℕ) × (ℕ × Unit {0})))))))
-
--- Its promise: what the call does is what `Meets` says.
-abbrev pub SignedCall : {S : Type 0} → (S → Bool) → (S → Distr) → SignedArguments S → Answer → SignedArguments S → Type 0
-SignedCall isMade distr (self, (output, (bounds, (endpoints, (heights, (curve, (words, (place, end)))))))) answer (_, (written, _)) =
-    Meets (isMade self) (distr self) (lent (now bounds) (now endpoints) (now heights) (now curve)) (now words) place (now output)
-    (outcome answer (now written))
-
--- The arguments of a bounded choice: words, place, k. Its promise: the value and the place of `choose`.
-abbrev pub ChoiceArguments : Type 0
-ChoiceArguments = RefT (List ℕ) × (ℕ × (ℕ × Unit {0}))
-
-abbrev pub BoundedChoice : ChoiceArguments → Taken → ChoiceArguments → Type 0
-BoundedChoice (words, (place, (k, end))) answer after = answer ≡ taken (length (now words)) (choose k (drop place (now words)))
 
 -- ---- demand 3, and that it is about this code
 

@@ -1,2 +1,3 @@
--- Demand 3, in one file.
+-- Demand 3, and the contracts that it is about.
+pub mod Contracts
 pub mod Certificate

@@ -6,9 +6,11 @@ use prepared_draws::encoded;
 use prepared_draws::encoded::ResidueMethod;
 use secret_key_method::prepare::prepare;
 ghost use mathlib.Core.Path.{_≡_};
+ghost use lib.ListN.{length, drop};
 ghost use Rattle.distr.specs.declared.secret_key_distr.SecretKeyDistr.the-variants.{UniformBinary, Binary, SparseTernary, UniformTernary, Ternary, FixedHammingWeightBinary, BlockBinary, FixedHammingWeightTernary, FixedCompositionTernary};
-ghost use Rattle.distr.specs.Distribution.{secret};
-ghost use Rattle.distr.specs.Draw.{outcome, encodedAtOnce};
+ghost use Rattle.distr.specs.Distribution.{secret, skipsOf};
+ghost use Rattle.distr.specs.Draw.{outcome, encodedAtOnce, noTables};
+ghost use Rattle.distr.specs.Answers.{sums, reported};
 
 // Prepares the method of a distribution and draws residues by it; the number of making comes before those of the draw.
 fn sample_at_once(
@@ -19,6 +21,7 @@ fn sample_at_once(
     place: usize,
 ) -> Answer
     ensures { λ r. ⌜ outcome r (now (output .exit)) ≡ encodedAtOnce (secret distr) modulus (now (words .entry)) place (now (output .entry)) ⌝ }
+    ensures { λ r. ⌜ sums r ≡ reported (r .number) (skipsOf (secret distr) (length (now (output .entry))) noTables (drop place (now (words .entry)))) ⌝ }
 {
     let prepared = prepare(distr);
     let by = ResidueMethod { prepared, modulus };
@@ -33,6 +36,7 @@ pub fn sample_uniform_binary_values_to(
     place: usize,
 ) -> Answer
     ensures { λ r. ⌜ outcome r (now (output .exit)) ≡ encodedAtOnce (secret UniformBinary) modulus (now (words .entry)) place (now (output .entry)) ⌝ }
+    ensures { λ r. ⌜ sums r ≡ reported (r .number) (skipsOf (secret UniformBinary) (length (now (output .entry))) noTables (drop place (now (words .entry)))) ⌝ }
 {
     sample_at_once(output, modulus, SecretKeyDistr::UniformBinary, words, place)
 }
@@ -46,6 +50,7 @@ pub fn sample_binary_values_with_probability_to(
     place: usize,
 ) -> Answer
     ensures { λ r. ⌜ outcome r (now (output .exit)) ≡ encodedAtOnce (secret (Binary «one_probability»)) modulus (now (words .entry)) place (now (output .entry)) ⌝ }
+    ensures { λ r. ⌜ sums r ≡ reported (r .number) (skipsOf (secret (Binary «one_probability»)) (length (now (output .entry))) noTables (drop place (now (words .entry)))) ⌝ }
 {
     let distr = SecretKeyDistr::Binary { one_probability };
     sample_at_once(output, modulus, distr, words, place)
@@ -60,6 +65,7 @@ pub fn sample_fixed_hamming_weight_binary_values_to(
     place: usize,
 ) -> Answer
     ensures { λ r. ⌜ outcome r (now (output .exit)) ≡ encodedAtOnce (secret (FixedHammingWeightBinary «hamming_weight»)) modulus (now (words .entry)) place (now (output .entry)) ⌝ }
+    ensures { λ r. ⌜ sums r ≡ reported (r .number) (skipsOf (secret (FixedHammingWeightBinary «hamming_weight»)) (length (now (output .entry))) noTables (drop place (now (words .entry)))) ⌝ }
 {
     let distr = SecretKeyDistr::FixedHammingWeightBinary { hamming_weight };
     sample_at_once(output, modulus, distr, words, place)
@@ -75,6 +81,7 @@ pub fn sample_block_binary_values_to(
     place: usize,
 ) -> Answer
     ensures { λ r. ⌜ outcome r (now (output .exit)) ≡ encodedAtOnce (secret (BlockBinary «block_size» occupancy)) modulus (now (words .entry)) place (now (output .entry)) ⌝ }
+    ensures { λ r. ⌜ sums r ≡ reported (r .number) (skipsOf (secret (BlockBinary «block_size» occupancy)) (length (now (output .entry))) noTables (drop place (now (words .entry)))) ⌝ }
 {
     let distr = SecretKeyDistr::BlockBinary {
         block_size,
@@ -91,6 +98,7 @@ pub fn sample_sparse_ternary_values_to(
     place: usize,
 ) -> Answer
     ensures { λ r. ⌜ outcome r (now (output .exit)) ≡ encodedAtOnce (secret SparseTernary) modulus (now (words .entry)) place (now (output .entry)) ⌝ }
+    ensures { λ r. ⌜ sums r ≡ reported (r .number) (skipsOf (secret SparseTernary) (length (now (output .entry))) noTables (drop place (now (words .entry)))) ⌝ }
 {
     sample_at_once(output, modulus, SecretKeyDistr::SparseTernary, words, place)
 }
@@ -103,6 +111,7 @@ pub fn sample_uniform_ternary_values_to(
     place: usize,
 ) -> Answer
     ensures { λ r. ⌜ outcome r (now (output .exit)) ≡ encodedAtOnce (secret UniformTernary) modulus (now (words .entry)) place (now (output .entry)) ⌝ }
+    ensures { λ r. ⌜ sums r ≡ reported (r .number) (skipsOf (secret UniformTernary) (length (now (output .entry))) noTables (drop place (now (words .entry)))) ⌝ }
 {
     let distr = SecretKeyDistr::UniformTernary;
     sample_at_once(output, modulus, distr, words, place)
@@ -118,6 +127,7 @@ pub fn sample_ternary_values_with_probabilities_to(
     place: usize,
 ) -> Answer
     ensures { λ r. ⌜ outcome r (now (output .exit)) ≡ encodedAtOnce (secret (Ternary «minus_one_probability» «one_probability»)) modulus (now (words .entry)) place (now (output .entry)) ⌝ }
+    ensures { λ r. ⌜ sums r ≡ reported (r .number) (skipsOf (secret (Ternary «minus_one_probability» «one_probability»)) (length (now (output .entry))) noTables (drop place (now (words .entry)))) ⌝ }
 {
     let distr = SecretKeyDistr::Ternary {
         negative_one_probability: minus_one_probability,
@@ -135,6 +145,7 @@ pub fn sample_fixed_hamming_weight_ternary_values_to(
     place: usize,
 ) -> Answer
     ensures { λ r. ⌜ outcome r (now (output .exit)) ≡ encodedAtOnce (secret (FixedHammingWeightTernary «hamming_weight»)) modulus (now (words .entry)) place (now (output .entry)) ⌝ }
+    ensures { λ r. ⌜ sums r ≡ reported (r .number) (skipsOf (secret (FixedHammingWeightTernary «hamming_weight»)) (length (now (output .entry))) noTables (drop place (now (words .entry)))) ⌝ }
 {
     let distr = SecretKeyDistr::FixedHammingWeightTernary { hamming_weight };
     sample_at_once(output, modulus, distr, words, place)
@@ -150,6 +161,7 @@ pub fn sample_fixed_composition_ternary_values_to(
     place: usize,
 ) -> Answer
     ensures { λ r. ⌜ outcome r (now (output .exit)) ≡ encodedAtOnce (secret (FixedCompositionTernary «minus_one_weight» «one_weight»)) modulus (now (words .entry)) place (now (output .entry)) ⌝ }
+    ensures { λ r. ⌜ sums r ≡ reported (r .number) (skipsOf (secret (FixedCompositionTernary «minus_one_weight» «one_weight»)) (length (now (output .entry))) noTables (drop place (now (words .entry)))) ⌝ }
 {
     let distr = SecretKeyDistr::FixedCompositionTernary {
         negative_one_weight: minus_one_weight,

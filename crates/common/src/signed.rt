@@ -5,14 +5,17 @@ use distr::secret_key_distr::SecretKeyDistr;
 use prepared_draws::signed;
 use secret_key_method::prepare::prepare;
 ghost use mathlib.Core.Path.{_≡_};
+ghost use lib.ListN.{length, drop};
 ghost use Rattle.distr.specs.declared.secret_key_distr.SecretKeyDistr.the-variants.{UniformBinary, Binary, SparseTernary, UniformTernary, Ternary, FixedHammingWeightBinary, BlockBinary, FixedHammingWeightTernary, FixedCompositionTernary};
-ghost use Rattle.distr.specs.Distribution.{secret};
-ghost use Rattle.distr.specs.Draw.{outcome, signedAtOnce};
+ghost use Rattle.distr.specs.Distribution.{secret, skipsOf};
+ghost use Rattle.distr.specs.Draw.{outcome, signedAtOnce, noTables};
+ghost use Rattle.distr.specs.Answers.{sums, reported};
 
 // Prepares the method of a distribution for this call alone and draws by it: the number of making, or the draw. No distribution here uses a table, so none
 // is lent.
 fn sample_at_once(output: &mut [i64], distr: SecretKeyDistr, words: &[u32], place: usize) -> Answer
     ensures { λ r. ⌜ outcome r (now (output .exit)) ≡ signedAtOnce (secret distr) (now (words .entry)) place (now (output .entry)) ⌝ }
+    ensures { λ r. ⌜ sums r ≡ reported (r .number) (skipsOf (secret distr) (length (now (output .entry))) noTables (drop place (now (words .entry)))) ⌝ }
 {
     let by = prepare(distr);
     signed::sample_signed_to(output, by, &[], &[], &[], &[], words, place)
@@ -21,6 +24,7 @@ fn sample_at_once(output: &mut [i64], distr: SecretKeyDistr, words: &[u32], plac
 // 0 and 1, each with probability 1/2.
 pub fn sample_uniform_binary_values_to(output: &mut [i64], words: &[u32], place: usize) -> Answer
     ensures { λ r. ⌜ outcome r (now (output .exit)) ≡ signedAtOnce (secret UniformBinary) (now (words .entry)) place (now (output .entry)) ⌝ }
+    ensures { λ r. ⌜ sums r ≡ reported (r .number) (skipsOf (secret UniformBinary) (length (now (output .entry))) noTables (drop place (now (words .entry)))) ⌝ }
 {
     sample_at_once(output, SecretKeyDistr::UniformBinary, words, place)
 }
@@ -33,6 +37,7 @@ pub fn sample_binary_values_with_probability_to(
     place: usize,
 ) -> Answer
     ensures { λ r. ⌜ outcome r (now (output .exit)) ≡ signedAtOnce (secret (Binary «one_probability»)) (now (words .entry)) place (now (output .entry)) ⌝ }
+    ensures { λ r. ⌜ sums r ≡ reported (r .number) (skipsOf (secret (Binary «one_probability»)) (length (now (output .entry))) noTables (drop place (now (words .entry)))) ⌝ }
 {
     let distr = SecretKeyDistr::Binary { one_probability };
     sample_at_once(output, distr, words, place)
@@ -46,6 +51,7 @@ pub fn sample_fixed_hamming_weight_binary_values_to(
     place: usize,
 ) -> Answer
     ensures { λ r. ⌜ outcome r (now (output .exit)) ≡ signedAtOnce (secret (FixedHammingWeightBinary «hamming_weight»)) (now (words .entry)) place (now (output .entry)) ⌝ }
+    ensures { λ r. ⌜ sums r ≡ reported (r .number) (skipsOf (secret (FixedHammingWeightBinary «hamming_weight»)) (length (now (output .entry))) noTables (drop place (now (words .entry)))) ⌝ }
 {
     let distr = SecretKeyDistr::FixedHammingWeightBinary { hamming_weight };
     sample_at_once(output, distr, words, place)
@@ -60,6 +66,7 @@ pub fn sample_block_binary_values_to(
     place: usize,
 ) -> Answer
     ensures { λ r. ⌜ outcome r (now (output .exit)) ≡ signedAtOnce (secret (BlockBinary «block_size» occupancy)) (now (words .entry)) place (now (output .entry)) ⌝ }
+    ensures { λ r. ⌜ sums r ≡ reported (r .number) (skipsOf (secret (BlockBinary «block_size» occupancy)) (length (now (output .entry))) noTables (drop place (now (words .entry)))) ⌝ }
 {
     let distr = SecretKeyDistr::BlockBinary {
         block_size,
@@ -71,6 +78,7 @@ pub fn sample_block_binary_values_to(
 // 0 with probability 1/2, 1 and -1 with 1/4 each.
 pub fn sample_sparse_ternary_values_to(output: &mut [i64], words: &[u32], place: usize) -> Answer
     ensures { λ r. ⌜ outcome r (now (output .exit)) ≡ signedAtOnce (secret SparseTernary) (now (words .entry)) place (now (output .entry)) ⌝ }
+    ensures { λ r. ⌜ sums r ≡ reported (r .number) (skipsOf (secret SparseTernary) (length (now (output .entry))) noTables (drop place (now (words .entry)))) ⌝ }
 {
     sample_at_once(output, SecretKeyDistr::SparseTernary, words, place)
 }
@@ -78,6 +86,7 @@ pub fn sample_sparse_ternary_values_to(output: &mut [i64], words: &[u32], place:
 // -1, 0 and 1 with probability 1/3 each.
 pub fn sample_uniform_ternary_values_to(output: &mut [i64], words: &[u32], place: usize) -> Answer
     ensures { λ r. ⌜ outcome r (now (output .exit)) ≡ signedAtOnce (secret UniformTernary) (now (words .entry)) place (now (output .entry)) ⌝ }
+    ensures { λ r. ⌜ sums r ≡ reported (r .number) (skipsOf (secret UniformTernary) (length (now (output .entry))) noTables (drop place (now (words .entry)))) ⌝ }
 {
     sample_at_once(output, SecretKeyDistr::UniformTernary, words, place)
 }
@@ -91,6 +100,7 @@ pub fn sample_ternary_values_with_probabilities_to(
     place: usize,
 ) -> Answer
     ensures { λ r. ⌜ outcome r (now (output .exit)) ≡ signedAtOnce (secret (Ternary «minus_one_probability» «one_probability»)) (now (words .entry)) place (now (output .entry)) ⌝ }
+    ensures { λ r. ⌜ sums r ≡ reported (r .number) (skipsOf (secret (Ternary «minus_one_probability» «one_probability»)) (length (now (output .entry))) noTables (drop place (now (words .entry)))) ⌝ }
 {
     let distr = SecretKeyDistr::Ternary {
         negative_one_probability: minus_one_probability,
@@ -107,6 +117,7 @@ pub fn sample_fixed_hamming_weight_ternary_values_to(
     place: usize,
 ) -> Answer
     ensures { λ r. ⌜ outcome r (now (output .exit)) ≡ signedAtOnce (secret (FixedHammingWeightTernary «hamming_weight»)) (now (words .entry)) place (now (output .entry)) ⌝ }
+    ensures { λ r. ⌜ sums r ≡ reported (r .number) (skipsOf (secret (FixedHammingWeightTernary «hamming_weight»)) (length (now (output .entry))) noTables (drop place (now (words .entry)))) ⌝ }
 {
     let distr = SecretKeyDistr::FixedHammingWeightTernary { hamming_weight };
     sample_at_once(output, distr, words, place)
@@ -121,6 +132,7 @@ pub fn sample_fixed_composition_ternary_values_to(
     place: usize,
 ) -> Answer
     ensures { λ r. ⌜ outcome r (now (output .exit)) ≡ signedAtOnce (secret (FixedCompositionTernary «minus_one_weight» «one_weight»)) (now (words .entry)) place (now (output .entry)) ⌝ }
+    ensures { λ r. ⌜ sums r ≡ reported (r .number) (skipsOf (secret (FixedCompositionTernary «minus_one_weight» «one_weight»)) (length (now (output .entry))) noTables (drop place (now (words .entry)))) ⌝ }
 {
     let distr = SecretKeyDistr::FixedCompositionTernary {
         negative_one_weight: minus_one_weight,

@@ -7,8 +7,10 @@ use prepared_draws::encoded;
 use prepared_draws::encoded::ResidueMethod;
 use prepared_draws::signed;
 ghost use mathlib.Core.Path.{_≡_};
-ghost use Rattle.distr.specs.Distribution.{error};
-ghost use Rattle.distr.specs.Draw.{outcome, Meets, encodedDraw, crtDraw};
+ghost use lib.ListN.{length, drop};
+ghost use Rattle.distr.specs.Distribution.{error, skipsOf};
+ghost use Rattle.distr.specs.Draw.{outcome, Meets, encodedDraw, crtDraw, crtSkips};
+ghost use Rattle.distr.specs.Answers.{sums, reported};
 ghost use Rattle.signed_discrete_gaussian.specs.Lent.{lent};
 ghost use Rattle.error_sampler.specs.Sampler.{isMade};
 
@@ -27,6 +29,7 @@ impl ErrorSampler {
         ensures { λ r. ⌜ Meets (isMade self) (error (self .distribution))
             (lent (now (bounds .entry)) (now (endpoints .entry)) (now (heights .entry)) (now (curve .entry)))
             (now (words .entry)) place (now (output .entry)) (outcome r (now (output .exit))) ⌝ }
+        ensures { λ r. ⌜ sums r ≡ reported (r .number) (skipsOf (error (self .distribution)) (length (now (output .entry))) (lent (now (bounds .entry)) (now (endpoints .entry)) (now (heights .entry)) (now (curve .entry))) (drop place (now (words .entry)))) ⌝ }
     {
         let by = self.prepared();
         signed::sample_signed_to(output, by, bounds, endpoints, heights, curve, words, place)
@@ -47,6 +50,7 @@ impl ErrorSampler {
         ensures { λ r. ⌜ outcome r (now (output .exit)) ≡ encodedDraw (isMade self) (error (self .distribution))
             (lent (now (bounds .entry)) (now (endpoints .entry)) (now (heights .entry)) (now (curve .entry)))
             modulus (now (words .entry)) place (now (output .entry)) ⌝ }
+        ensures { λ r. ⌜ sums r ≡ reported (r .number) (skipsOf (error (self .distribution)) (length (now (output .entry))) (lent (now (bounds .entry)) (now (endpoints .entry)) (now (heights .entry)) (now (curve .entry))) (drop place (now (words .entry)))) ⌝ }
     {
         let prepared = self.prepared();
         let by = ResidueMethod { prepared, modulus };
@@ -70,6 +74,7 @@ impl ErrorSampler {
             crtDraw (isMade self) (error (self .distribution))
             (lent (now (bounds .entry)) (now (endpoints .entry)) (now (heights .entry)) (now (curve .entry)))
             «coefficient_count» (now (moduli .entry)) (now (words .entry)) place (now (output .entry)) ⌝ }
+        ensures { λ r. ⌜ sums r ≡ reported (r .number) (crtSkips (error (self .distribution)) «coefficient_count» (lent (now (bounds .entry)) (now (endpoints .entry)) (now (heights .entry)) (now (curve .entry))) (length (now (output .entry))) (drop place (now (words .entry)))) ⌝ }
     {
         crt_draw::sample_crt_to(
             output,

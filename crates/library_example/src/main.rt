@@ -93,6 +93,20 @@ fn at_once() {
     print::line(b"blocks over 2", answer, &blocks);
 }
 
+// What a draw skips is handed back beside the place: a key with one -1 and one 1 chooses among 2 and then among 3, and the second choice passes over
+// the word 2^32-1 twice.
+fn skipped() {
+    let words = [0xffff_ffff, 0xffff_ffff, 0xffff_ffff, 0];
+    let mut key = [9i64; 3];
+    let answer = signed::sample_fixed_composition_ternary_values_to(&mut key, 1, 1, &words, 0);
+    print::signed_line(b"composition", answer, &key);
+    print::line(
+        b"words and bytes skipped",
+        answer,
+        &[answer.skipped_words, answer.skipped_bytes],
+    );
+}
+
 fn main() {
     keys();
     errors();
@@ -100,6 +114,7 @@ fn main() {
     gaussian();
     ternary();
     at_once();
+    skipped();
     refusals::states();
     refusals::inputs();
 }

@@ -37,6 +37,12 @@ fn signed(value: i64) {
     }
 }
 
+// A line of a number alone, with the place 0.
+pub(crate) fn number_line(name: &[u8], number: u32) {
+    head(name, number, 0);
+    end();
+}
+
 // A line of a signed draw.
 pub(crate) fn signed_line(name: &[u8], answer: Answer, values: &[i64]) {
     head(name, answer.number, answer.place);

@@ -1,6 +1,5 @@
 // Calls that are refused: the number says why, and neither the place nor the output changes.
 use crate::print;
-use primus_distr::Answer;
 use primus_distr::BlockOccupancy;
 use primus_distr::GaussianParameters;
 use primus_distr::SecretKeyDistr;
@@ -46,18 +45,14 @@ pub(crate) fn states() {
     });
     let empty = made.sampler;
     let number = empty.validate_modulus(17);
-    print::line(
-        b"modulus of an empty sampler",
-        Answer { number, place: 0 },
-        &[],
-    );
+    print::number_line(b"modulus of an empty sampler", number);
 }
 
 // 2 for the deviation 0.5, 5 for blocks of 0, 9 for the modulus 1, 22 for a place past the words.
 pub(crate) fn inputs() {
     let made = SignedDiscreteGaussian::new(0.5);
     let number = made.number;
-    print::line(b"deviation 0.5", Answer { number, place: 0 }, &[]);
+    print::number_line(b"deviation 0.5", number);
     let mut output = [9i64; 2];
     let answer = signed::sample_block_binary_values_to(
         &mut output,

@@ -1,21 +1,23 @@
--- A method prepared for a distribution draws as the distribution does, however the output holds coefficients.
-use mathlib.Core.Path.{_≡_, refl, ap, _∙_}
+-- A method prepared for a distribution draws as the distribution does, however the output holds coefficients, and skips what it skips.
+use mathlib.Core.Path.{_≡_, refl, ap}
 use mathlib.Core.Bool.{true, not}
 use mathlib.Core.List.{List, [], _∷_}
 use Prim.Native.Nat.{ℕ, _+_, _-_, _^_, _<_, _≤_}
-use borrow.Author.Tests.{eq-eqb}
+use borrow.Author.Tests.{eq-eqb, le-leb, lt-leb}
 use lib.ListN.{length}
 use lib.IntN.{ℤ}
 use Rattle.distr.specs.declared.secret_key_distr.SecretKeyDistr.{SecretKeyDistr}
 use Rattle.distr.specs.declared.secret_key_distr.SecretKeyDistr.the-variants as Distr
 use Rattle.distr.specs.declared.error_distribution.ErrorDistribution.{ErrorDistribution}
 use Rattle.distr.specs.declared.error_distribution.ErrorDistribution.the-variants as Error
+use Rattle.distr.specs.Skipped.{Skipped, skippedWords}
+use Rattle.distr.specs.Answers.{reported}
 use Rattle.distr.specs.Rule.{Rule}
 use Rattle.distr.specs.Thresholds.{threshold, binary}
 use Rattle.distr.specs.declared.gaussian_parameters.GaussianParameters.{GaussianParameters}
 use Rattle.distr.specs.Gaussian.{support, cumulative, cumulativeTable}
-use Rattle.distr.specs.Layered.{layerTables, layered}
-use Rattle.distr.specs.Distribution.{Distr, secret, error, Tables, onDeviation, secretRule, errorRule, rule, coefficients}
+use Rattle.distr.specs.Layered.{layerTables, layered, passedLayered}
+use Rattle.distr.specs.Distribution.{Distr, secret, error, Tables, onDeviation, secretRule, errorRule, rule, coefficients, skipsOf}
 use Rattle.distr.specs.Making.{refuse, errorNumber, makingNumber, largest}
 use Rattle.distr.specs.Numbers.{firstOf, badWeight, badBlocks, lengthNumber, gaussianTable, tableNumber}
 use Rattle.distr.specs.Draw.{Outcome, readDraw, ruleDraw}
@@ -32,7 +34,7 @@ use Rattle.secret_key_method.specs.Method.{prepared, preparing as preparingSecr
 use Rattle.secret_key_method.proofs.Prepared.{prepared-magnitude as secret-magnitude, prepared-length as secret-length}
 use Rattle.error_method.specs.Method.{prepared as preparedError}
 use Rattle.error_method.proofs.Prepared.{prepared-magnitude as error-magnitude, prepared-length as error-length}
-use Rattle.method_draws.specs.Drawing.{preparedMethod, preparing, methodDraw}
+use Rattle.method_draws.specs.Drawing.{preparedMethod, preparing, methodDraw, methodSkips}
 
 -- the parameters that are prepared for an accepted eta pass their family's test
 pub prepared-binomial : (eta : ℕ) → errorNumber (Error.CenteredBinomial eta) ≡ 0 → isMadeBinomial (parametersOf eta) ≡ true
@@ -91,6 +93,45 @@ module _ {A : Type 0} (write : List ℤ → List A) (tables : Tables) (words : L
   unfolding preparedMethod makingNumber
   prepared-draw (secret d) z = secret-draw d
   prepared-draw (error d) z = error-draw d z
+
+-- What a prepared method skips is what its distribution skips.
+module _ (tables : Tables) (n : ℕ) (ws : List ℕ) where
+  secret-skips : (d : SecretKeyDistr) → methodSkips (prepared d) tables n ws ≡ skipsOf (secret d) n tables ws
+  unfolding methodSkips prepared skipsOf onDeviation rule secretRule
+  secret-skips Distr.UniformBinary = refl
+  secret-skips (Distr.Binary p) = ap (λ (t : ℕ). binary t n .skips ws) (flagged-value (threshold p))
+  secret-skips Distr.SparseTernary = refl
+  secret-skips Distr.UniformTernary = refl
+  secret-skips (Distr.Ternary minus plus) = ap (λ (r : Rule). r .skips ws) (sampler-rule (threshold minus) (threshold plus) n)
+  secret-skips (Distr.FixedHammingWeightBinary h) = refl
+  secret-skips (Distr.BlockBinary size occupancy) = refl
+  secret-skips (Distr.FixedHammingWeightTernary h) = refl
+  secret-skips (Distr.FixedCompositionTernary minus ones) = refl
+  secret-skips (Distr.Gaussian deviation) = refl
+
+  error-skips : (d : ErrorDistribution) → methodSkips (preparedError d) tables n ws ≡ skipsOf (error d) n tables ws
+  unfolding methodSkips preparedError skipsOf onDeviation rule errorRule
+  error-skips (Error.Gaussian deviation) = refl
+  error-skips (Error.CenteredBinomial eta) = refl
+
+  pub prepared-skips : (d : Distr) → methodSkips (preparedMethod d) tables n ws ≡ skipsOf d n tables ws
+  unfolding preparedMethod
+  prepared-skips (secret d) = secret-skips d
+  prepared-skips (error d) = error-skips d
+
+  -- what is reported of a Gaussian's method is what its backend skips
+  module _ {method : SamplingMethod} {parameters : GaussianParameters} (e : method ≡ Gaussian parameters) (number : ℕ) {s : Skipped} where
+    pub skips-by-table : parameters .«maximum_magnitude» ≤ 255
+        → s ≡ reported number (cumulative (parameters .«maximum_magnitude») (tables .bounds) n .skips ws)
+        → s ≡ reported number (methodSkips method tables n ws)
+    unfolding methodSkips
+    skips-by-table h said = rw (e, le-leb (parameters .«maximum_magnitude») 255 h) said
+
+    pub skips-by-layers : 255 < parameters .«maximum_magnitude»
+        → s ≡ reported number (skippedWords (passedLayered (parameters .«standard_deviation») (tables .layers) n ws))
+        → s ≡ reported number (methodSkips method tables n ws)
+    unfolding methodSkips
+    skips-by-layers h said = rw (e, lt-leb (parameters .«maximum_magnitude») 255 h) said
 
 -- What a prepared method keeps is its distribution's.
 pub prepared-magnitude : (d : Distr) → magnitudeOf (preparedMethod d) ≡ largest d

@@ -8,7 +8,9 @@ use Rattle.distr.specs.UniformTernary.{uniformTernary}
 use Rattle.distr.specs.Thresholds.{binary}
 use Rattle.distr.specs.Insertion.{fixedComposition, fixedBinaryWeight, fixedTernaryWeight}
 use Rattle.distr.specs.Blocks.{blockBinary}
-use Rattle.distr.specs.Distribution.{Distr, secret, error, Tables, gaussianRead}
+use Rattle.distr.specs.Skipped.{Skipped, nothing}
+use Rattle.distr.specs.CenteredBinomial.{centeredBinomial}
+use Rattle.distr.specs.Distribution.{Distr, secret, error, Tables, gaussianRead, gaussianSkips}
 use Rattle.distr.specs.Making.{makingNumber}
 use Rattle.distr.specs.Constants.{neverMade}
 use Rattle.distr.specs.Numbers.{badWeight, badBlocks, gaussianTable}
@@ -53,3 +55,18 @@ methodDraw write (Gaussian parameters) tables words place out =
     (λ ws. gaussianRead (parameters .«standard_deviation») (parameters .«maximum_magnitude») tables (length out) ws) words place out
 methodDraw write (CenteredBinomial parameters) tables words place out = binomialDraw write parameters words place out
 methodDraw write Empty tables words place out = record { number = neverMade; place = place; output = out }
+
+-- 02 [1]: what is skipped while a method draws n coefficients from the words left; the empty one draws nothing.
+unfoldable pub methodSkips : SamplingMethod → Tables → ℕ → List ℕ → Skipped
+methodSkips UniformBinary tables n ws = uniformBinary n .skips ws
+methodSkips (Binary t) tables n ws = binary (thresholdValue t) n .skips ws
+methodSkips SparseTernary tables n ws = sparseTernary n .skips ws
+methodSkips UniformTernary tables n ws = uniformTernary n .skips ws
+methodSkips (Ternary s) tables n ws = samplerRule s n .skips ws
+methodSkips (FixedHammingWeightBinary h) tables n ws = fixedBinaryWeight h n .skips ws
+methodSkips (BlockBinary size occupancy) tables n ws = blockBinary size occupancy n .skips ws
+methodSkips (FixedHammingWeightTernary h) tables n ws = fixedTernaryWeight h n .skips ws
+methodSkips (FixedCompositionTernary minus ones) tables n ws = fixedComposition minus ones n .skips ws
+methodSkips (Gaussian parameters) tables n ws = gaussianSkips (parameters .«standard_deviation») (parameters .«maximum_magnitude») tables n ws
+methodSkips (CenteredBinomial parameters) tables n ws = centeredBinomial (parameters .eta) n .skips ws
+methodSkips Empty tables n ws = nothing

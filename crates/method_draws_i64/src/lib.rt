@@ -21,10 +21,12 @@ use output_i64::Encoding;
 use output_i64::Out;
 use ziggurat_i64::sample_ziggurat_to;
 ghost use mathlib.Core.Path.{_≡_};
+ghost use lib.ListN.{length, drop};
 ghost use Rattle.distr.specs.Draw.{outcome};
+ghost use Rattle.distr.specs.Answers.{sums, reported};
 ghost use Rattle.output_i64.specs.Out.{held};
 ghost use Rattle.signed_discrete_gaussian.specs.Lent.{lent};
-ghost use Rattle.method_draws.specs.Drawing.{methodDraw};
+ghost use Rattle.method_draws.specs.Drawing.{methodDraw, methodSkips};
 
 // Draws by the family of the method, held as the encoding says. No sampler that is made has the empty method.
 pub fn sample_to_with(
@@ -41,6 +43,7 @@ pub fn sample_to_with(
     ensures { λ r. ⌜ outcome r (now (output .exit)) ≡ methodDraw (held encoding) method
         (lent (now (bounds .entry)) (now (endpoints .entry)) (now (heights .entry)) (now (curve .entry)))
         (now (words .entry)) place (now (output .entry)) ⌝ }
+    ensures { λ r. ⌜ sums r ≡ reported (r .number) (methodSkips method (lent (now (bounds .entry)) (now (endpoints .entry)) (now (heights .entry)) (now (curve .entry))) (length (now (output .entry))) (drop place (now (words .entry)))) ⌝ }
 {
     match method {
         SamplingMethod::UniformBinary => sample_uniform_binary(output, encoding, words, place),

@@ -30,7 +30,7 @@ by-method place out z e = rw z e
 
 module _ (out : List ℕ) (count : ℕ) where
   -- the part lent from `last` on is the last row, and putting back what was drawn there replaces it
-  lent-row : {last : ℕ} → last ≡ length out - count → midOf last (length out - last) out ≡ lastRow out count
+  pub lent-row : {last : ℕ} → last ≡ length out - count → midOf last (length out - last) out ≡ lastRow out count
   lent-row {last} e = part-to-end out last ∙ ap (λ (k : ℕ). drop k out) e
 
   put-back : {last : ℕ} (ys : List ℕ) → last ≡ length out - count
@@ -43,12 +43,13 @@ module _ (out : List ℕ) (count : ℕ) where
   -- so the output is finished from the row that was drawn
   pub finished-lent : (moduli : List ℕ) (draw : List ℕ → Outcome ℕ) {last : ℕ} (answer : Answer) (ys : List ℕ) → last ≡ length out - count
       → outcome answer ys ≡ draw (midOf last (length out - last) out)
-      → finished (putMid last (length out - last) out ys) count moduli answer ≡ finishedRow out count moduli (draw (lastRow out count))
+      → finished (putMid last (length out - last) out ys) count moduli (answer .number) (answer .place)
+      ≡ finishedRow out count moduli (draw (lastRow out count))
   finished-lent moduli draw answer ys e drawn =
-      ap (λ (l : List ℕ). finished l count moduli answer) (put-back ys e)
+      ap (λ (l : List ℕ). finished l count moduli (answer .number) (answer .place)) (put-back ys e)
       ∙ ap (finishedRow out count moduli) (drawn ∙ ap draw (lent-row e))
 
-  length-row : length (lastRow out count) ≡ length out - (length out - count)
+  pub length-row : length (lastRow out count) ≡ length out - (length out - count)
   length-row = length-drop (length out - count) out
 
   -- a row of the same length in its place
@@ -105,7 +106,8 @@ module _ (method : SamplingMethod) (tables : Tables) (count : ℕ) (moduli words
   -- none does
   pub method-drawn : k ≡ 0 → {last : ℕ} (answer : Answer) (ys : List ℕ) → last ≡ length out - count
       → outcome answer ys ≡ rowDraw method tables words place (midOf last (length out - last) out)
-      → (o : Outcome ℕ) → o ≡ finished (putMid last (length out - last) out ys) count moduli answer → o ≡ crtBy method tables count moduli words place out
+      → (o : Outcome ℕ) → o ≡ finished (putMid last (length out - last) out ys) count moduli (answer .number) (answer .place)
+      → o ≡ crtBy method tables count moduli words place out
   unfolding crtBy judged
   method-drawn z answer ys l drawn o f =
       f ∙ finished-lent out count moduli (rowDraw method tables words place) answer ys l drawn ∙ rw (← e, eq-eqb k 0 z)

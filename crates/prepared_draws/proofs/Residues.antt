@@ -10,15 +10,12 @@ use borrow.Author.Tests.{eq-eqb, eqb-true, eqb-false, ne-eqb, ltb-false, leb-fal
 use lib.Dec.{eqb, leb}
 use lib.ListN.{length, drop, replicate, length-drop}
 use lib.IntN.{ℤ, pos}
-use lib.Ieee.{Float}
 use Rattle.distr.specs.declared.secret_key_distr.SecretKeyDistr.{SecretKeyDistr}
 use Rattle.distr.specs.declared.secret_key_distr.SecretKeyDistr.the-variants as Secret
 use Rattle.distr.specs.declared.secret_key_distr.BlockOccupancy.the-variants.{AtMostOne, ExactlyOne}
-use Rattle.distr.specs.declared.error_distribution.ErrorDistribution.{ErrorDistribution}
 use Rattle.distr.specs.declared.error_distribution.ErrorDistribution.the-variants as Error
 use Rattle.distr.specs.Words.{Read, got, mapRead, many}
 use Rattle.distr.specs.Thresholds.{threshold}
-use Rattle.distr.specs.Gaussian.{support}
 use Rattle.distr.specs.Distribution.{Distr, secret, error, Tables, onDeviation, errorRule, rule, coefficients}
 use Rattle.distr.specs.Encoding.{encode, encodeWith, rows}
 use Rattle.distr.specs.Constants.{modulusZero}
@@ -71,6 +68,11 @@ module _ (m : SamplingMethod) (n q : ℕ) (z : firstOf (residueNumbers m n q) �
       let after = first-passed (refuse (isBinomial m && eqb q 0) modulusZero) _ (first-passed (lengthOf m n) _ z .1) in
       let last = first-passed (modulusNumber (magnitudeOf m) q) [] (after .1) in
       omega (arith, leb-false q (magnitudeOf m) (not-refused (leb q (magnitudeOf m)) 8 (last .0)))
+
+-- a number that is asked for refuses, whether or not others go before it
+pub asked-refuses : (a b j : ℕ) → (j ≡ 0 → ⊥) → {k : ℕ} → k ≡ firstOf (a ∷ b ∷ j ∷ []) → k ≡ 0 → ⊥
+asked-refuses a b j never e z =
+    never (first-passed j [] (first-passed b _ (first-passed a _ (sym e ∙ z) .1) .1) .0)
 
 -- the answers of the draw, as the code tries them
 module _ (m : SamplingMethod) (tables : Tables) (q : ℕ) (words : List ℕ) (place : ℕ) (out : List ℕ) {j : ℕ} (e : j ≡ firstOf (residueNumbers m (length out) q)) where

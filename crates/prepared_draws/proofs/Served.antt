@@ -21,7 +21,6 @@ use lib.Seq.{length-take-le}
 use Rattle.distr.specs.Encoding.{encodeWith, rows}
 use Rattle.distr.specs.Making.{largest}
 use Rattle.distr.specs.Numbers.{firstOf, stateNumbers, servesCrt, tableNumber}
-use Rattle.distr.specs.Answers.{refusal}
 use Rattle.distr.specs.Draw.{Outcome, settled, judged, readDraw, crtDraw}
 use Rattle.distr.proofs.Drawing.{read-settled, read-own, read-got}
 use Rattle.draw_laws.proofs.Bounds.{Within}
@@ -132,7 +131,7 @@ module _ {d : Distr} {method : SamplingMethod} {tables : Tables} (s : Serves d m
     table-finished t =
         ap (finishedRow out count moduli)
         (row-drawn ∙ read-own asNative (tableNumber d tables) (coefficients d (length part) tables) words place part here few t)
-        ∙ sym (finished-kept (2 ^ 63) (take (length out - count) out ++ part) count moduli (refusal (tableNumber d tables) place)
+        ∙ sym (finished-kept (2 ^ 63) (take (length out - count) out ++ part) count moduli (tableNumber d tables) place
         (λ z. omega arith) (λ z. omega (arith, s .table)) (sym (take-append-drop (length out - count) out)))
 
     -- else an empty output stays
@@ -164,7 +163,7 @@ module _ {d : Distr} {method : SamplingMethod} {tables : Tables} (s : Serves d m
         let size : length (row .output) ≡ length part =
         ap (λ (o : Outcome ℕ). length (o .output)) drawn
         ∙ settled-length (length words) place count (s .counts count (drop place words)) ∙ sym long in
-        finished-settled (2 ^ 63) (take (length out - count) out ++ row .output) count moduli (record { number = row .number; place = row .place })
+        finished-settled (2 ^ 63) (take (length out - count) out ++ row .output) count moduli (row .number) (row .place)
         (largest d) (length words) place (coefficients d count tables (drop place words)) (row-length out count (row .output) size ∙ layout .shape)
         (s .small) (layout .above) (s .within t count (drop place words)) (rw (row-last out count (row .output) size) drawn)
 

@@ -6,6 +6,7 @@ use lib.Dec.{eqb}
 use lib.ListN.{length, take}
 use lib.IntN.{ℤ}
 use Rattle.distr.specs.Constants.{modulusZero, neverMade}
+use Rattle.distr.specs.Skipped.{Skipped, nothing}
 use Rattle.distr.specs.Distribution.{Tables}
 use Rattle.distr.specs.Encoding.{encodeWith}
 use Rattle.distr.specs.Making.{refuse}
@@ -15,7 +16,7 @@ use Rattle.methods.specs.declared.PreparedMethod.{PreparedMethod}
 use Rattle.methods.specs.declared.SamplingMethod.{SamplingMethod}
 use Rattle.methods.specs.Method.{magnitudeOf, lengthOf}
 use Rattle.methods.specs.Keys.{isBinomial, isServed}
-use Rattle.method_draws.specs.Drawing.{methodDraw}
+use Rattle.method_draws.specs.Drawing.{methodDraw, methodSkips}
 use Rattle.crt.specs.Rows.{lastRow, finished}
 
 -- The number that goes with a method refuses the draw, or the method draws.
@@ -52,10 +53,14 @@ rowDraw method tables words place out =
 -- An output whose last row was drawn, finished from it.
 abbrev pub finishedRow : List ℕ → ℕ → List ℕ → Outcome ℕ → Outcome ℕ
 finishedRow out coefficientCount moduli row =
-    finished (take (length out - coefficientCount) out ++ row .output) coefficientCount moduli (record { number = row .number; place = row .place })
+    finished (take (length out - coefficientCount) out ++ row .output) coefficientCount moduli (row .number) (row .place)
 
 -- The first number that refuses the draw, or the rows made from the last one.
 unfoldable pub crtBy : SamplingMethod → Tables → ℕ → List ℕ → List ℕ → ℕ → List ℕ → Outcome ℕ
 crtBy method tables coefficientCount moduli words place out =
     judged (crtNumber method (length words) place (length out) coefficientCount moduli) place out
     (finishedRow out coefficientCount moduli (rowDraw method tables words place (lastRow out coefficientCount)))
+
+-- 02 [1]: what a CRT draw by a method into n elements skips: one sum, and nothing for an empty output.
+unfoldable pub crtSkipsBy : SamplingMethod → Tables → ℕ → ℕ → List ℕ → Skipped
+crtSkipsBy method tables coefficientCount n ws = cond (eqb n 0) nothing (methodSkips method tables coefficientCount ws)

@@ -12,10 +12,13 @@ use methods::maximum_magnitude;
 use output_u64::Encoding;
 use ziggurat_u64::sample_ziggurat_to;
 ghost use mathlib.Core.Path.{_≡_};
+ghost use lib.ListN.{length, drop};
 ghost use Rattle.distr.specs.Draw.{outcome};
+ghost use Rattle.distr.specs.Answers.{sums, reported};
+ghost use Rattle.method_draws.specs.Drawing.{methodSkips};
 ghost use Rattle.methods.specs.declared.SamplingMethod.{SamplingMethod};
 ghost use Rattle.signed_discrete_gaussian.specs.Lent.{lent};
-ghost use Rattle.prepared_draws.specs.Drawing.{preparedDraw, crtNumber, rowDraw, crtBy};
+ghost use Rattle.prepared_draws.specs.Drawing.{preparedDraw, crtNumber, rowDraw, crtBy, crtSkipsBy};
 
 // The number of a draw into n elements by a method: 21 for one that is not served, 22, 11, 6, then modulus by modulus 10 before 9.
 fn crt_draw_number(
@@ -49,6 +52,7 @@ fn draw_row(
     ensures { λ r. ⌜ outcome r (now (output .exit)) ≡
         rowDraw method (lent (now (bounds .entry)) (now (endpoints .entry)) (now (heights .entry)) (now (curve .entry)))
         (now (words .entry)) place (now (output .entry)) ⌝ }
+    ensures { λ r. ⌜ sums r ≡ reported (r .number) (methodSkips method (lent (now (bounds .entry)) (now (endpoints .entry)) (now (heights .entry)) (now (curve .entry))) (length (now (output .entry))) (drop place (now (words .entry)))) ⌝ }
 {
     let native = Encoding {
         minus_one: 0xffff_ffff_ffff_ffff,
@@ -103,6 +107,7 @@ pub fn sample_crt_to(
     ensures { λ r. ⌜ outcome r (now (output .exit)) ≡ preparedDraw prepared place (now (output .entry)) (λ (m : SamplingMethod). crtBy m
         (lent (now (bounds .entry)) (now (endpoints .entry)) (now (heights .entry)) (now (curve .entry)))
         «coefficient_count» (now (moduli .entry)) (now (words .entry)) place (now (output .entry))) ⌝ }
+    ensures { λ r. ⌜ sums r ≡ reported (r .number) (crtSkipsBy (prepared .method) (lent (now (bounds .entry)) (now (endpoints .entry)) (now (heights .entry)) (now (curve .entry))) «coefficient_count» (length (now (output .entry))) (drop place (now (words .entry)))) ⌝ }
 {
     let refusal = prepared.number;
     if refusal != 0 {

@@ -12,8 +12,11 @@ use methods::modulus_number;
 use numbers::draw_number;
 use output_u64::Encoding;
 ghost use mathlib.Core.Path.{_≡_};
+ghost use lib.ListN.{length, drop};
 ghost use Rattle.distr.specs.Numbers.{firstOf};
 ghost use Rattle.distr.specs.Draw.{outcome};
+ghost use Rattle.distr.specs.Answers.{sums, reported};
+ghost use Rattle.method_draws.specs.Drawing.{methodSkips};
 ghost use Rattle.methods.specs.declared.SamplingMethod.{SamplingMethod};
 ghost use Rattle.signed_discrete_gaussian.specs.Lent.{lent};
 ghost use Rattle.prepared_draws.specs.Drawing.{preparedDraw, residueNumbers, encodedBy};
@@ -54,6 +57,7 @@ pub fn sample_encoded_to(
     ensures { λ r. ⌜ outcome r (now (output .exit)) ≡ preparedDraw (by .prepared) place (now (output .entry)) (λ (m : SamplingMethod). encodedBy m
         (lent (now (bounds .entry)) (now (endpoints .entry)) (now (heights .entry)) (now (curve .entry)))
         (by .modulus) (now (words .entry)) place (now (output .entry))) ⌝ }
+    ensures { λ r. ⌜ sums r ≡ reported (r .number) (methodSkips (by .prepared .method) (lent (now (bounds .entry)) (now (endpoints .entry)) (now (heights .entry)) (now (curve .entry))) (length (now (output .entry))) (drop place (now (words .entry)))) ⌝ }
 {
     let prepared = by.prepared;
     let modulus = by.modulus;

@@ -5,9 +5,11 @@ use method_draws_i64::sample_to_with;
 use methods::PreparedMethod;
 use output_i64::Encoding;
 ghost use mathlib.Core.Path.{_≡_};
+ghost use lib.ListN.{length, drop};
 ghost use Rattle.distr.specs.Draw.{outcome};
+ghost use Rattle.distr.specs.Answers.{sums, reported};
 ghost use Rattle.methods.specs.declared.SamplingMethod.{SamplingMethod};
-ghost use Rattle.method_draws.specs.Drawing.{methodDraw};
+ghost use Rattle.method_draws.specs.Drawing.{methodDraw, methodSkips};
 ghost use Rattle.signed_discrete_gaussian.specs.Lent.{lent};
 ghost use Rattle.prepared_draws.specs.Drawing.{preparedDraw};
 
@@ -25,6 +27,7 @@ pub fn sample_signed_to(
     ensures { λ r. ⌜ outcome r (now (output .exit)) ≡ preparedDraw prepared place (now (output .entry)) (λ (m : SamplingMethod). methodDraw (λ cs. cs) m
         (lent (now (bounds .entry)) (now (endpoints .entry)) (now (heights .entry)) (now (curve .entry)))
         (now (words .entry)) place (now (output .entry))) ⌝ }
+    ensures { λ r. ⌜ sums r ≡ reported (r .number) (methodSkips (prepared .method) (lent (now (bounds .entry)) (now (endpoints .entry)) (now (heights .entry)) (now (curve .entry))) (length (now (output .entry))) (drop place (now (words .entry)))) ⌝ }
 {
     let number = prepared.number;
     if number != 0 {

@@ -5,8 +5,10 @@ use distr::error_distribution::ErrorDistribution;
 use error_sampler::ErrorSampler;
 use methods::SamplingMethod;
 ghost use mathlib.Core.Path.{_≡_};
-ghost use Rattle.distr.specs.Distribution.{error};
+ghost use lib.ListN.{length, drop};
+ghost use Rattle.distr.specs.Distribution.{error, skipsOf};
 ghost use Rattle.distr.specs.Draw.{outcome, signedDraw, encodedDraw, noTables};
+ghost use Rattle.distr.specs.Answers.{sums, reported};
 ghost use Rattle.error_sampler.specs.Sampler.{isMade};
 ghost use Rattle.primus_distr.specs.Views.{makingBinomial, asBinomialError};
 
@@ -58,6 +60,7 @@ impl CenteredBinomial {
     pub fn sample_to(self, output: &mut [i64], words: &[u32], place: usize) -> Answer
         ensures { λ r. ⌜ outcome r (now (output .exit)) ≡ signedDraw (isMade (asBinomialError self)) (error (asBinomialError self .distribution)) noTables
             (now (words .entry)) place (now (output .entry)) ⌝ }
+        ensures { λ r. ⌜ sums r ≡ reported (r .number) (skipsOf (error (asBinomialError self .distribution)) (length (now (output .entry))) noTables (drop place (now (words .entry)))) ⌝ }
     {
         let sampler = as_error(self);
         sampler.sample_signed_to(output, &[], &[], &[], &[], words, place)
@@ -73,6 +76,7 @@ impl CenteredBinomial {
     ) -> Answer
         ensures { λ r. ⌜ outcome r (now (output .exit)) ≡ encodedDraw (isMade (asBinomialError self)) (error (asBinomialError self .distribution)) noTables modulus
             (now (words .entry)) place (now (output .entry)) ⌝ }
+        ensures { λ r. ⌜ sums r ≡ reported (r .number) (skipsOf (error (asBinomialError self .distribution)) (length (now (output .entry))) noTables (drop place (now (words .entry)))) ⌝ }
     {
         let sampler = as_error(self);
         sampler.sample_encoded_to(output, modulus, &[], &[], &[], &[], words, place)

@@ -5,8 +5,10 @@ use distr::gaussian_parameters::GaussianParameters;
 use error_sampler::ErrorSampler;
 use methods::SamplingMethod;
 ghost use mathlib.Core.Path.{_≡_};
-ghost use Rattle.distr.specs.Distribution.{error};
+ghost use lib.ListN.{length, drop};
+ghost use Rattle.distr.specs.Distribution.{error, skipsOf};
 ghost use Rattle.distr.specs.Draw.{outcome, signedDraw, encodedDraw};
+ghost use Rattle.distr.specs.Answers.{sums, reported};
 ghost use Rattle.error_sampler.specs.Sampler.{isMade};
 ghost use Rattle.signed_discrete_gaussian.specs.Lent.{lent};
 ghost use Rattle.primus_distr.specs.Views.{makingGaussian, asError};
@@ -76,6 +78,7 @@ impl SignedDiscreteGaussian {
         ensures { λ r. ⌜ outcome r (now (output .exit)) ≡ signedDraw (isMade (asError self)) (error (asError self .distribution))
             (lent (now (bounds .entry)) (now (endpoints .entry)) (now (heights .entry)) (now (curve .entry)))
             (now (words .entry)) place (now (output .entry)) ⌝ }
+        ensures { λ r. ⌜ sums r ≡ reported (r .number) (skipsOf (error (asError self .distribution)) (length (now (output .entry))) (lent (now (bounds .entry)) (now (endpoints .entry)) (now (heights .entry)) (now (curve .entry))) (drop place (now (words .entry)))) ⌝ }
     {
         let sampler = as_error(self);
         sampler.sample_signed_to(output, bounds, endpoints, heights, curve, words, place)
@@ -96,6 +99,7 @@ impl SignedDiscreteGaussian {
         ensures { λ r. ⌜ outcome r (now (output .exit)) ≡ encodedDraw (isMade (asError self)) (error (asError self .distribution))
             (lent (now (bounds .entry)) (now (endpoints .entry)) (now (heights .entry)) (now (curve .entry))) modulus
             (now (words .entry)) place (now (output .entry)) ⌝ }
+        ensures { λ r. ⌜ sums r ≡ reported (r .number) (skipsOf (error (asError self .distribution)) (length (now (output .entry))) (lent (now (bounds .entry)) (now (endpoints .entry)) (now (heights .entry)) (now (curve .entry))) (drop place (now (words .entry)))) ⌝ }
     {
         let sampler = as_error(self);
         sampler.sample_encoded_to(

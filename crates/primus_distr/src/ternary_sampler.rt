@@ -5,8 +5,10 @@ use methods::SamplingMethod;
 use secret_key_sampler::SecretKeySampler;
 use ternary::ternary::TernaryEnds;
 ghost use mathlib.Core.Path.{_≡_};
-ghost use Rattle.distr.specs.Distribution.{secret};
+ghost use lib.ListN.{length, drop};
+ghost use Rattle.distr.specs.Distribution.{secret, skipsOf};
 ghost use Rattle.distr.specs.Draw.{outcome, signedDraw, encodedDraw, noTables};
+ghost use Rattle.distr.specs.Answers.{sums, reported};
 ghost use Rattle.secret_key_sampler.specs.Sampler.{isMade};
 ghost use Rattle.primus_distr.specs.Views.{makingTernary, asKey};
 
@@ -78,6 +80,7 @@ impl TernarySampler {
     pub fn sample_signed_to(self, output: &mut [i64], words: &[u32], place: usize) -> Answer
         ensures { λ r. ⌜ outcome r (now (output .exit)) ≡ signedDraw (isMade (asKey self)) (secret (asKey self .distr)) noTables
             (now (words .entry)) place (now (output .entry)) ⌝ }
+        ensures { λ r. ⌜ sums r ≡ reported (r .number) (skipsOf (secret (asKey self .distr)) (length (now (output .entry))) noTables (drop place (now (words .entry)))) ⌝ }
     {
         let sampler = as_key(self);
         sampler.sample_signed_to(output, &[], &[], &[], &[], words, place)
@@ -93,6 +96,7 @@ impl TernarySampler {
     ) -> Answer
         ensures { λ r. ⌜ outcome r (now (output .exit)) ≡ encodedDraw (isMade (asKey self)) (secret (asKey self .distr)) noTables modulus
             (now (words .entry)) place (now (output .entry)) ⌝ }
+        ensures { λ r. ⌜ sums r ≡ reported (r .number) (skipsOf (secret (asKey self .distr)) (length (now (output .entry))) noTables (drop place (now (words .entry)))) ⌝ }
     {
         let sampler = as_key(self);
         sampler.sample_encoded_to(output, modulus, &[], &[], &[], &[], words, place)

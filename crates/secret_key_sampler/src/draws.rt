@@ -7,8 +7,10 @@ use prepared_draws::encoded;
 use prepared_draws::encoded::ResidueMethod;
 use prepared_draws::signed;
 ghost use mathlib.Core.Path.{_≡_};
-ghost use Rattle.distr.specs.Distribution.{secret};
-ghost use Rattle.distr.specs.Draw.{outcome, Meets, encodedDraw, crtDraw};
+ghost use lib.ListN.{length, drop};
+ghost use Rattle.distr.specs.Distribution.{secret, skipsOf};
+ghost use Rattle.distr.specs.Draw.{outcome, Meets, encodedDraw, crtDraw, crtSkips};
+ghost use Rattle.distr.specs.Answers.{sums, reported};
 ghost use Rattle.signed_discrete_gaussian.specs.Lent.{lent};
 ghost use Rattle.secret_key_sampler.specs.Sampler.{isMade};
 
@@ -27,6 +29,7 @@ impl SecretKeySampler {
         ensures { λ r. ⌜ Meets (isMade self) (secret (self .distr))
             (lent (now (bounds .entry)) (now (endpoints .entry)) (now (heights .entry)) (now (curve .entry)))
             (now (words .entry)) place (now (output .entry)) (outcome r (now (output .exit))) ⌝ }
+        ensures { λ r. ⌜ sums r ≡ reported (r .number) (skipsOf (secret (self .distr)) (length (now (output .entry))) (lent (now (bounds .entry)) (now (endpoints .entry)) (now (heights .entry)) (now (curve .entry))) (drop place (now (words .entry)))) ⌝ }
     {
         let by = self.prepared();
         signed::sample_signed_to(output, by, bounds, endpoints, heights, curve, words, place)
@@ -47,6 +50,7 @@ impl SecretKeySampler {
         ensures { λ r. ⌜ outcome r (now (output .exit)) ≡ encodedDraw (isMade self) (secret (self .distr))
             (lent (now (bounds .entry)) (now (endpoints .entry)) (now (heights .entry)) (now (curve .entry)))
             modulus (now (words .entry)) place (now (output .entry)) ⌝ }
+        ensures { λ r. ⌜ sums r ≡ reported (r .number) (skipsOf (secret (self .distr)) (length (now (output .entry))) (lent (now (bounds .entry)) (now (endpoints .entry)) (now (heights .entry)) (now (curve .entry))) (drop place (now (words .entry)))) ⌝ }
     {
         let prepared = self.prepared();
         let by = ResidueMethod { prepared, modulus };
@@ -70,6 +74,7 @@ impl SecretKeySampler {
             crtDraw (isMade self) (secret (self .distr))
             (lent (now (bounds .entry)) (now (endpoints .entry)) (now (heights .entry)) (now (curve .entry)))
             «coefficient_count» (now (moduli .entry)) (now (words .entry)) place (now (output .entry)) ⌝ }
+        ensures { λ r. ⌜ sums r ≡ reported (r .number) (crtSkips (secret (self .distr)) «coefficient_count» (lent (now (bounds .entry)) (now (endpoints .entry)) (now (heights .entry)) (now (curve .entry))) (length (now (output .entry))) (drop place (now (words .entry)))) ⌝ }
     {
         crt_draw::sample_crt_to(
             output,

@@ -1,24 +1,32 @@
--- A request by its kind: what the kind selects draws as the request asks.
+-- A request by its kind: what the kind selects draws as the request asks, and reports what the distribution of the kind skips.
 use Prim.Native.Nat.{ℕ}
-use mathlib.Core.Path.{_≡_, refl}
+use native.Mathlib.Omega.{arith}
+use mathlib.Core.Path.{_≡_, ap, _∙_}
 use mathlib.Core.Bool.{Bool, true, false, cond}
 use mathlib.Core.List.{List}
+use Rattle.distr.specs.declared.answer.Answer.{Answer}
+use Rattle.distr.specs.Constants.{invalidSheet}
+use Rattle.distr.specs.Skipped.{Skipped, nothing}
+use Rattle.distr.specs.Answers.{reported}
 use Rattle.distr.specs.Distribution.{Distr}
 use Rattle.distr.specs.Draw.{Outcome, atOnce}
-use Rattle.distr.specs.Constants.{invalidSheet}
+use Rattle.distr.proofs.Skipping.{reports-same}
+use Rattle.prepared_draws.proofs.Calls.{Answered}
 use Rattle.any_sampler.specs.declared.AnyDistr.{AnyDistr}
 use Rattle.any_sampler.specs.declared.AnyDistr.the-variants.{Unknown}
-use Rattle.any_sampler.specs.Either.{anyOf, anyAtOnce}
-use Rattle.any_sampler.proofs.Drawing.{drawn-of}
+use Rattle.any_sampler.specs.Either.{anyOf, anyAtOnce, anySkips}
+use Rattle.any_sampler.proofs.Drawing.{drawn-of, skipped-of}
 use Rattle.sheet_request.specs.Request.{knownKind, kindDistr, known, selected}
 
--- A draw of what a kind selects is the draw of its distribution, or 14.
-pub asked-draw : {A : Type 0} (draw : Distr → Outcome A) (out : List A) (kind a b : ℕ) {found : AnyDistr} → found ≡ selected kind a b
-    → anyAtOnce found 0 out draw ≡ known kind out (atOnce (kindDistr kind a b) 0 out (draw (kindDistr kind a b)))
-asked-draw {A} draw out kind a b e = rw e (go (knownKind kind) (kindDistr kind a b))
+-- A draw of what a kind selects is the draw of its distribution, or 14, which reports nothing.
+pub asked-draw : {A : Type 0} {r : Answer} {after : List A} (draw : Distr → Outcome A) (skips : Distr → Skipped) (out : List A) (kind a b : ℕ)
+    {found : AnyDistr} → found ≡ selected kind a b → Answered r after (anyAtOnce found 0 out draw) (anySkips found skips)
+    → Answered r after (known kind out (atOnce (kindDistr kind a b) 0 out (draw (kindDistr kind a b)))) (skips (kindDistr kind a b))
+unfolding anyAtOnce anySkips
+asked-draw {A} {r} {after} draw skips out kind a b e said = go (knownKind kind) (kindDistr kind a b) (rw e at said)
   where
-    go : (b : Bool) (d : Distr)
-        → anyAtOnce (cond b (anyOf d) Unknown) 0 out draw
-        ≡ cond b (atOnce d 0 out (draw d)) (record { number = invalidSheet; place = 0; output = out })
-    go true d = drawn-of draw 0 out d
-    go false d = unfold anyAtOnce in refl
+    go : (b : Bool) (d : Distr) → Answered r after (anyAtOnce (cond b (anyOf d) Unknown) 0 out draw) (anySkips (cond b (anyOf d) Unknown) skips)
+        → Answered r after (cond b (atOnce d 0 out (draw d)) (record { number = invalidSheet; place = 0; output = out })) (skips d)
+    go true d said = (said .0 ∙ drawn-of draw 0 out d, said .1 ∙ ap (reported (r .number)) (skipped-of skips d))
+    go false d said =
+        (said .0, reports-same r nothing (skips d) (λ z. absurd (omega (arith, ap (λ (o : Outcome A). o .number) (said .0)))) (said .1))

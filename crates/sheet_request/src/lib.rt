@@ -9,8 +9,11 @@ use prepared_draws::encoded;
 use prepared_draws::encoded::ResidueMethod;
 use prepared_draws::signed;
 ghost use mathlib.Core.Path.{_≡_};
-ghost use Rattle.distr.specs.Draw.{outcome};
-ghost use Rattle.sheet_request.specs.Request.{selected, requestSigned, requestEncoded};
+ghost use lib.ListN.{length};
+ghost use Rattle.distr.specs.Draw.{outcome, noTables};
+ghost use Rattle.distr.specs.Answers.{sums, reported};
+ghost use Rattle.distr.specs.Distribution.{skipsOf};
+ghost use Rattle.sheet_request.specs.Request.{selected, requestSigned, requestEncoded, kindDistr};
 
 // The distribution of a kind, or 14. Unused parameters are ignored.
 fn select(kind: u32, a: u32, b: u32) -> AnyDistr
@@ -47,6 +50,7 @@ fn select(kind: u32, a: u32, b: u32) -> AnyDistr
 // table, so none is lent.
 pub fn draw_signed(output: &mut [i64], kind: u32, a: u32, b: u32, words: &[u32]) -> Answer
     ensures { λ r. ⌜ outcome r (now (output .exit)) ≡ requestSigned kind a b (now (words .entry)) (now (output .entry)) ⌝ }
+    ensures { λ r. ⌜ sums r ≡ reported (r .number) (skipsOf (kindDistr kind a b) (length (now (output .entry))) noTables (now (words .entry))) ⌝ }
 {
     let by = select(kind, a, b).prepare();
     signed::sample_signed_to(output, by, &[], &[], &[], &[], words, 0)
@@ -62,6 +66,7 @@ pub fn draw_encoded(
     words: &[u32],
 ) -> Answer
     ensures { λ r. ⌜ outcome r (now (output .exit)) ≡ requestEncoded kind a b modulus (now (words .entry)) (now (output .entry)) ⌝ }
+    ensures { λ r. ⌜ sums r ≡ reported (r .number) (skipsOf (kindDistr kind a b) (length (now (output .entry))) noTables (now (words .entry))) ⌝ }
 {
     let prepared = select(kind, a, b).prepare();
     let by = ResidueMethod { prepared, modulus };

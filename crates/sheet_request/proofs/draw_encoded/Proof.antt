@@ -1,9 +1,9 @@
 -- `draw_encoded` draws what the kind selects.
-use mathlib.Core.Path.{_∙_}
 use mathlib.Core.Bool.{true}
 use native.Mathlib.Omega.{arith}
 use borrow.Author.Needs.{needs}
-use Rattle.distr.specs.Distribution.{Distr}
+use lib.ListN.{length}
+use Rattle.distr.specs.Distribution.{Distr, skipsOf}
 use Rattle.distr.specs.Draw.{encodedDraw, noTables, encodedAtOnce}
 use Rattle.any_sampler.proofs.Drawing.{any-encoded}
 use Rattle.sheet_request.specs.Request.{requestEncoded}
@@ -18,9 +18,11 @@ returns c =
     let made = drawn .before .before .before .before .before .before in
     let asked = made .before in
     let a = asked .before .before .before .args in
-    any-encoded noTables (a .words .now) 0 (asked .select .result) (made .prepare .ensures) (a .modulus) (a .output .now) (omega arith) (drawn .sample-encoded-to .ensures)
-    ∙ asked-draw (λ (d : Distr). encodedDraw true d noTables (a .modulus) (a .words .now) 0 (a .output .now)) (a .output .now) (a .kind) (a .a) (a .b)
-    (asked .select .ensures)
+    asked-draw (λ (d : Distr). encodedDraw true d noTables (a .modulus) (a .words .now) 0 (a .output .now))
+    (λ (d : Distr). skipsOf d (length (a .output .now)) noTables (a .words .now))
+    (a .output .now) (a .kind) (a .a) (a .b) (asked .select .ensures)
+    (any-encoded noTables (a .words .now) 0 (asked .select .result) (made .prepare .ensures) (a .modulus) (a .output .now) (omega arith)
+    (drawn .sample-encoded-to .ensures))
 
 pub draw-encoded-spec : {M : Type 1} → statement M
 draw-encoded-spec =

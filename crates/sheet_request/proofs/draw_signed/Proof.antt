@@ -1,8 +1,8 @@
 -- `draw_signed` draws what the kind selects.
-use mathlib.Core.Path.{_∙_}
 use mathlib.Core.Bool.{true}
 use borrow.Author.Needs.{needs}
-use Rattle.distr.specs.Distribution.{Distr}
+use lib.ListN.{length}
+use Rattle.distr.specs.Distribution.{Distr, skipsOf}
 use Rattle.distr.specs.Draw.{signedDraw, noTables, signedAtOnce}
 use Rattle.any_sampler.proofs.Drawing.{any-signed}
 use Rattle.sheet_request.specs.Request.{requestSigned}
@@ -17,9 +17,10 @@ returns c =
     let made = drawn .before .before .before .before .before .before in
     let asked = made .before in
     let a = asked .before .before .args in
-    any-signed noTables (a .words .now) 0 (asked .select .result) (made .prepare .ensures) (a .output .now) (drawn .sample-signed-to .ensures)
-    ∙ asked-draw (λ (d : Distr). signedDraw true d noTables (a .words .now) 0 (a .output .now)) (a .output .now) (a .kind) (a .a) (a .b)
-    (asked .select .ensures)
+    asked-draw (λ (d : Distr). signedDraw true d noTables (a .words .now) 0 (a .output .now))
+    (λ (d : Distr). skipsOf d (length (a .output .now)) noTables (a .words .now))
+    (a .output .now) (a .kind) (a .a) (a .b) (asked .select .ensures)
+    (any-signed noTables (a .words .now) 0 (asked .select .result) (made .prepare .ensures) (a .output .now) (drawn .sample-signed-to .ensures))
 
 pub draw-signed-spec : {M : Type 1} → statement M
 draw-signed-spec =

@@ -1,24 +1,31 @@
--- `encoded::sample_encoded_to` answers the number of its method, or judges the length and the modulus, and draws residues by the method.
+-- `encoded::sample_encoded_to` answers the number of its method, or judges the length and the modulus, and draws residues by the method, and
+-- reports what that skips.
 use mathlib.Core.Path.{sym, _∙_}
 use lib.ListN.{length}
 use Rattle.distr.specs.Draw.{judged}
+use Rattle.distr.proofs.Skipping.{reports-refused}
 use borrow.Author.Needs.{needs}
 use borrow.Author.Tests.{ne-eqb}
 use Rattle.prepared_draws.proofs.Answers.{by-method}
-use Rattle.prepared_draws.proofs.Residues.{residues-above, encoded-asked, encoded-drawn}
+use Rattle.prepared_draws.proofs.Residues.{residues-above, asked-refuses, encoded-asked, encoded-drawn}
 use Rattle.prepared_draws.proofs.encoded.sample_encoded_to.Statement.{statement}
 use Rattle.prepared_draws.proofs.encoded.sample_encoded_to.Tie as tie
 
 returns : tie.Need-returns
 unfolding judged
-returns c = rw (c .refused .ensures, ne-eqb _ 0 (c .before .if1 .taken))
+returns c =
+    let taken = c .before .if1 .taken in
+    (rw (c .refused .ensures, ne-eqb _ 0 taken), reports-refused _ taken (c .refused .ensures))
 
 returns-2 : tie.Need-returns-2
 returns-2 c =
     let asked = c .before .before in
-    rw (c .refused2 .ensures)
-    (by-method _ _ (asked .before .before .if1 .left)
-    (encoded-asked _ _ _ _ _ _ (asked .before .residue-number .ensures) (asked .if2 .taken) (c .before .draw-number .ensures)))
+    let number = c .before .draw-number .ensures in (
+      rw (c .refused2 .ensures)
+          (by-method _ _ (asked .before .before .if1 .left)
+          (encoded-asked _ _ _ _ _ _ (asked .before .residue-number .ensures) (asked .if2 .taken) number)),
+      reports-refused _ (asked-refuses _ _ _ (asked .if2 .taken) number) (c .refused2 .ensures),
+    )
 
 sub-minus-one : tie.Need-sub-minus-one
 sub-minus-one c =
@@ -28,8 +35,11 @@ sub-minus-one c =
 returns-3 : tie.Need-returns-3
 returns-3 c =
     let asked = c .before .before .before .before in
-    by-method _ _ (asked .before .before .if1 .left)
-    (encoded-drawn _ _ _ _ _ _ (asked .before .residue-number .ensures) (asked .if2 .left) (c .before .before .sample-to-with .ensures))
+    let drawn = c .before .before .sample-to-with .ensures in (
+      by-method _ _ (asked .before .before .if1 .left)
+          (encoded-drawn _ _ _ _ _ _ (asked .before .residue-number .ensures) (asked .if2 .left) (drawn .0)),
+      drawn .1,
+    )
 
 pub sample-encoded-to-spec : {M : Type 1} → statement M
 sample-encoded-to-spec =
