@@ -1,5 +1,7 @@
 #!/usr/bin/env python3
-"""A model of the program keysheet, written from document 01 alone: a sheet on standard input, the answer's text on standard output.
+"""A model of the program keysheet, written from documents 01 and 02 alone: a sheet on standard input, the answer's text on standard output.
+
+  keysheet_model.py [skipped]      (skipped: a third line with the words and the bytes skipped, document 02 [1])
 
 It is the independent source of the stored answers, so it shares nothing with the Rattle code and aims to be read, not to be fast."""
 import struct
@@ -9,6 +11,7 @@ SHEET_LIMIT = 65536     # bytes of a sheet
 LENGTH_LIMIT = 4096     # coefficients of a sheet
 WORD_LIMIT = 8192       # words of a sheet
 OUTPUT_LIMIT = 65536    # coefficients of any draw
+LARGEST = 2**64 - 1     # a byte sum above it is given as it
 
 
 class Refused(Exception):
@@ -20,11 +23,13 @@ class Refused(Exception):
 
 
 class Words:
-    """A lent list of 32-bit words and the place in it."""
+    """A lent list of 32-bit words and the place in it, with the words that choices passed over and the bytes that were rejected."""
 
     def __init__(self, words):
         self.words = words
         self.place = 0
+        self.skipped_words = 0
+        self.skipped_bytes = 0
 
     def word(self):
         if self.place == len(self.words):
@@ -43,6 +48,7 @@ class Words:
             w = self.word()
             if w < k * (2**32 // k):
                 return w % k
+            self.skipped_words += 1
 
 
 def uniform_binary(words, n):
@@ -58,7 +64,8 @@ def sparse_ternary(words, n):
 
 
 def uniform_ternary(words, n):
-    """Bytes, lowest first, 243..255 skipped; five base-3 digits, lowest first, 0, 1, 2 giving -1, 0, 1."""
+    """Bytes, lowest first, 243..255 skipped; five base-3 digits, lowest first, 0, 1, 2 giving -1, 0, 1. Bytes after the last accepted one are
+    not looked at, so they are not rejected either."""
     out = []
     pending = []
     while len(out) < n:
@@ -66,10 +73,12 @@ def uniform_ternary(words, n):
             w = words.word()
             pending = [w >> shift & 255 for shift in (0, 8, 16, 24)]
         byte = pending.pop(0)
-        if byte < 243:
-            for _ in range(5):
-                out.append(byte % 3 - 1)
-                byte //= 3
+        if byte >= 243:
+            words.skipped_bytes += 1
+            continue
+        for _ in range(5):
+            out.append(byte % 3 - 1)
+            byte //= 3
     return out[:n]
 
 
@@ -186,16 +195,21 @@ def parse(sheet):
     return kind, n, a, b, modulus, list(struct.unpack_from(f"<{count}I", sheet, offset))
 
 
-def answer(sheet):
-    """The text that keysheet prints for a sheet."""
+def answer(sheet, skipped=False):
+    """The text that keysheet prints for a sheet: two lines, and with `skipped` a third; the one line of a refusal either way."""
     try:
         kind, n, a, b, modulus, words = parse(sheet)
         lent = Words(words)
         coefficients = draw(kind, n, a, b, modulus, lent)
     except Refused as refused:
         return f"{refused.number} 0 0\n"
-    return f"0 {lent.place} {n}\n" + " ".join(map(str, coefficients)) + "\n"
+    text = f"0 {lent.place} {n}\n" + " ".join(map(str, coefficients)) + "\n"
+    if skipped:
+        text += f"{lent.skipped_words} {min(lent.skipped_bytes, LARGEST)}\n"
+    return text
 
 
 if __name__ == "__main__":
-    sys.stdout.write(answer(sys.stdin.buffer.read(SHEET_LIMIT + 1)))
+    if sys.argv[1:] not in ([], ["skipped"]):
+        sys.exit(__doc__)
+    sys.stdout.write(answer(sys.stdin.buffer.read(SHEET_LIMIT + 1), sys.argv[1:] == ["skipped"]))

@@ -1,8 +1,9 @@
 #!/usr/bin/env python3
 """Writes the stored sheets of the gate and their answers by the model: make_cases.py CRATE_FOLDER
 
-CRATE_FOLDER gets data/NAME.sheet for each case, args (the files' names, a line each) and stdout (for each case a line `== NAME.sheet` and then
-the answer's lines). The cases are fixed: random words come from a generator with the seed below."""
+CRATE_FOLDER gets data/NAME.sheet for each case, args (files' names, a line each: those of PLAIN, the word `skipped`, and all of them) and stdout
+(for each name a line `== NAME.sheet` and then the answer's lines, with the third line after `skipped`). The cases are fixed: random words come
+from a generator with the seed below."""
 import random
 import struct
 import sys
@@ -14,6 +15,9 @@ from sheets import KINDS, sheet
 SEED = 20261115
 LENGTHS = (0, 1, 2, 4, 5, 6, 15, 16, 17, 31, 32, 33, 63, 64, 65)
 SKIPPED = (0xFFFFFFFF, 0xFFFFFFFE, 0xFFFFFFF3, 0xF3F4F5F6, 0xF2F2F2F2)   # passed over by choices, and bytes around 243
+# answered without the third line too: document 01's printed sheet, one of each kind, skipped words and bytes, an empty draw, refusals
+PLAIN = ("printed", "k1_n33_0", "k2_n17_0", "k3_n33_0", "k4_n33_2", "k5_n32_3", "k6_n32_3", "k7_n33_2", "k8_n33_2", "k9_n17_0",
+         "skips_composition", "skips_bytes_last_word", "k2_empty", "weight_4", "kind_0", "skips_short_choice")
 
 
 def words_for(rng, count):
@@ -127,9 +131,45 @@ def damaged(rng):
     yield "full_size", sheet(1, 4, 0, 0, w) + bytes(65536 - 32 - 4 * len(w))
 
 
+def skips(rng):
+    """Sheets for the third line: words that choices pass over and bytes that are rejected, few and many, and draws that skip none; document 01's
+    printed sheet among these."""
+    high = 0xFFFFFFFF   # passed over by every choice but one among a power of two
+    yield "printed", sheet(2, 4, 0, 0, [0xE4])
+    yield "skips_one_choice", sheet(4, 3, 1, 0, [high, 0xFFFFFFFE])
+    yield "skips_composition", sheet(8, 6, 2, 1, [high, high, 1, 0xFFFFFFFC, high, 0xFFFFFFFB])
+    yield "skips_composition_residues", sheet(8, 6, 2, 1, [high, high, 1, 0xFFFFFFFC, high, 0xFFFFFFFB], 7)
+    yield "skips_none_power_of_two", sheet(6, 8, 4, 0, [high, high])
+    yield "skips_blocks_exactly_one", sheet(6, 6, 3, 0, [high, 0xFFFFFFFE, high, 0])
+    yield "skips_blocks_at_most_one", sheet(5, 4, 2, 0, [high, 0xFFFFFFFE, high, high, 0])
+    yield "skips_blocks_many", sheet(6, 4095, 5, 0, [high, 3] * 819)
+    yield "skips_weight_signs_used", sheet(7, 3, 2, 0, [high, 0, high, 1])
+    yield "skips_weight_second_signs", sheet(7, 34, 33, 0, [high, *range(1, 33), high, high, 33])
+    yield "skips_weight_full", sheet(7, 70, 70, 0, [high, high, high])
+    yield "skips_weight_dense", sheet(4, 33, 20, 0, words_for(rng, 60))
+    yield "skips_all_words_but_one", sheet(4, 3, 1, 0, [high] * 8191 + [2])
+    yield "skips_bytes_last_word", sheet(3, 5, 0, 0, [0xF405F3FF])
+    yield "skips_bytes_after_last", sheet(3, 5, 0, 0, [0xFFFFFF05])
+    yield "skips_bytes_before_last", sheet(3, 5, 0, 0, [0x05FFFFFF])
+    yield "skips_bytes_two_words", sheet(3, 6, 0, 0, [0xF7F600F5, 0xFFFFFF02])
+    yield "skips_bytes_whole_words", sheet(3, 1, 0, 0, [high, high, 0xF2])
+    yield "skips_bytes_edge", sheet(3, 10, 0, 0, [0xF2F3F2F4])
+    yield "skips_bytes_none", sheet(3, 20, 0, 0, [0xF2F2F2F2])
+    yield "skips_bytes_many", sheet(3, 4096, 0, 0, [0xFFF300F4, 0x010203FF] * 206)
+    yield "skips_bytes_residues", sheet(3, 6, 0, 0, [0xF7F600F5, 0xFFFFFF02], 3329)
+    yield "skips_none_binary", sheet(1, 2, 0, 0, [high])
+    yield "skips_none_binomial", sheet(9, 2, 2, 0, [high] * 4, 17)
+    yield "skips_empty_ternary", sheet(3, 0, 0, 0, [high])
+    yield "skips_empty_composition", sheet(8, 0, 0, 0, [high])
+    yield "skips_short_choice", sheet(4, 3, 1, 0, [high])
+    yield "skips_short_second_choice", sheet(8, 6, 2, 1, [high, high, 1, high])
+    yield "skips_short_bytes", sheet(3, 6, 0, 0, [0xF7F600F5])
+    yield "skips_short_blocks", sheet(6, 6, 3, 0, [high, 1, high], 5)
+
+
 def cases():
     rng = random.Random(SEED)
-    for group in (drawn, bounds, refused, damaged):
+    for group in (drawn, bounds, refused, damaged, skips):
         yield from group(rng)
 
 
@@ -141,16 +181,18 @@ def main():
     data.mkdir(parents=True, exist_ok=True)
     for old in data.glob("*.sheet"):
         old.unlink()
-    names, texts = [], []
+    sheets = {}
     for name, content in cases():
         name += ".sheet"
-        assert name not in names, name
+        assert name not in sheets, name
         (data / name).write_bytes(content)
-        names.append(name)
-        texts.append(f"== {name}\n" + answer(content))
-    (folder / "args").write_text("\n".join(names) + "\n")
+        sheets[name] = content
+    plain = [name + ".sheet" for name in PLAIN]
+    texts = [f"== {name}\n" + answer(sheets[name]) for name in plain]
+    texts += [f"== {name}\n" + answer(sheets[name], skipped=True) for name in sheets]
+    (folder / "args").write_text("\n".join([*plain, "skipped", *sheets]) + "\n")
     (folder / "stdout").write_text("".join(texts))
-    print(f"{len(names)} sheets, {sum((data / n).stat().st_size for n in names)} bytes")
+    print(f"{len(sheets)} sheets, {sum(map(len, sheets.values()))} bytes, {len(plain)} of them answered twice")
 
 
 if __name__ == "__main__":

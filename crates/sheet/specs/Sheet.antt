@@ -1,16 +1,19 @@
 -- "The sheet": eight little-endian u32, then words; when it is malformed, what it draws, and its answer.
 use Prim.Native.Nat.{ℕ, zero, suc, _+_, _*_, _^_}
 use mathlib.Core.Bool.{Bool, not, cond, _||_}
-use mathlib.Core.List.{List, [], _∷_, map}
+use mathlib.Core.List.{List, [], _∷_, _++_, map}
 use lib.Dec.{ltb, eqb}
 use lib.ListN.{length, getD, replicate}
 use lib.Seq.{sets}
 use lib.IntN.{ℤ, pos}
 use Rattle.distr.specs.Constants.{sheetBytes, sheetCoefficients, sheetWords, invalidSheet}
-use Rattle.distr.specs.Draw.{Outcome, signedAtOnce, encodedAtOnce}
+use Rattle.distr.specs.Skipped.{Skipped}
+use Rattle.distr.specs.Answers.{reported}
+use Rattle.distr.specs.Distribution.{skipsOf}
+use Rattle.distr.specs.Draw.{Outcome, noTables, signedAtOnce, encodedAtOnce}
 use Rattle.sheet_request.specs.Request.{knownKind, kindDistr}
 use Rattle.sheet.specs.declared.fields.Fields.{Fields}
-use Rattle.sheet.specs.Text.{answerText}
+use Rattle.sheet.specs.Text.{answerText, skippedLine, lineIf}
 
 -- The little-endian u32 that begins at a byte of the sheet.
 unfoldable pub u32At : List ℕ → ℕ → ℕ
@@ -78,6 +81,29 @@ fieldsText f words =
 unfoldable pub sheetText : List ℕ → List ℕ
 sheetText s = cond (malformed s) (answerText invalidSheet 0 0 []) (fieldsText (fieldsOf s) (wordsOf s))
 
+-- 02 [1]: what that draw reports of the words and bytes skipped ("a refused call reports zeros").
+unfoldable pub fieldsSkipped : Fields → List ℕ → Skipped
+fieldsSkipped f words = reported (fieldsDraw f words .number) (skipsOf (kindDistr (f .kind) (f .a) (f .b)) (f .n) noTables words)
+
+-- The third line, with 02 [1]'s sums, of fields that are good: of a success alone, since "a refusal prints number, 0, 0 alone".
+abbrev pub fieldsThird : Fields → List ℕ → List ℕ
+fieldsThird f words = lineIf (eqb (fieldsDraw f words .number) 0) (skippedLine (fieldsSkipped f words))
+
+-- The third line of a sheet; number 14 is a refusal too.
+unfoldable pub sheetThird : List ℕ → List ℕ
+sheetThird s = cond (malformed s) [] (fieldsThird (fieldsOf s) (wordsOf s))
+
+-- The whole answer with the third line.
+abbrev pub sheetTextWithSkipped : List ℕ → List ℕ
+sheetTextWithSkipped s = sheetText s ++ sheetThird s
+
+-- The answers of fields and of a sheet, with the third line where it is wanted.
+abbrev pub fieldsTextAs : Bool → Fields → List ℕ → List ℕ
+fieldsTextAs wanted f words = fieldsText f words ++ lineIf wanted (fieldsThird f words)
+
+abbrev pub sheetTextAs : Bool → List ℕ → List ℕ
+sheetTextAs wanted s = sheetText s ++ lineIf wanted (sheetThird s)
+
 -- Bytes that hold every answer.
 abbrev pub textLimit : ℕ
 textLimit = 98304
@@ -85,3 +111,8 @@ textLimit = 98304
 -- A text that is shorter is left as it is and answered with 0; else the answer stands at its start, and the number of its bytes is handed back.
 unfoldable pub answered : List ℕ → List ℕ → ℕ × List ℕ
 answered s text = cond (ltb (length text) textLimit) (0, text) (length (sheetText s), sets text 0 (sheetText s))
+
+-- The same of an answer with the third line.
+unfoldable pub answeredWithSkipped : List ℕ → List ℕ → ℕ × List ℕ
+answeredWithSkipped s text =
+    cond (ltb (length text) textLimit) (0, text) (length (sheetTextWithSkipped s), sets text 0 (sheetTextWithSkipped s))

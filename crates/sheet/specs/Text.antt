@@ -4,6 +4,7 @@ use mathlib.Core.Bool.{Bool, true, false, cond}
 use mathlib.Core.List.{List, [], _∷_, _++_}
 use lib.Dec.{eqb}
 use lib.IntN.{ℤ, pos, negsuc}
+use Rattle.distr.specs.Skipped.{Skipped}
 
 -- The byte of the last decimal digit.
 abbrev pub lastDigit : ℕ → ℕ
@@ -45,3 +46,11 @@ line vs = lineFrom false vs
 unfoldable pub answerText : ℕ → ℕ → ℕ → List ℤ → List ℕ
 answerText number used n coefficients =
     cond (eqb number 0) (line (pos 0 ∷ pos used ∷ pos n ∷ []) ++ line coefficients) (line (pos number ∷ pos 0 ∷ pos 0 ∷ []))
+
+-- 02 [1], for question six: "both sums" on a third line, the words and then the bytes.
+abbrev pub skippedLine : Skipped → List ℕ
+skippedLine s = line (pos (s .words) ∷ pos (s .bytes) ∷ [])
+
+-- A line where it is wanted.
+abbrev pub lineIf : Bool → List ℕ → List ℕ
+lineIf wanted bytes = cond wanted bytes []

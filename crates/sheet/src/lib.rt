@@ -1,16 +1,17 @@
 // Serves the program keysheet: a sheet's fields and words, and the text that answers it.
 mod answer;
+pub mod argument;
 mod fields;
 mod reply;
 mod text;
 
 use distr::refusal::INVALID_SHEET;
 ghost use mathlib.Core.Path.{_≡_};
-ghost use mathlib.Core.Bool.{false};
+ghost use mathlib.Core.Bool.{false, cond};
 ghost use Prim.Native.Nat.{_≤_};
 ghost use lib.ListN.{length, take};
 ghost use Rattle.distr.specs.Constants.{sheetWords};
-ghost use Rattle.sheet.specs.Sheet.{malformed, sheetText, textLimit, answered};
+ghost use Rattle.sheet.specs.Sheet.{malformed, sheetTextAs, textLimit, answered, answeredWithSkipped};
 ghost use Rattle.sheet.specs.Written.{Written};
 
 // Bytes that hold every answer.
@@ -23,10 +24,10 @@ fn words_room() -> [u32; 8192]
     [0; 8192]
 }
 
-// Answers a sheet that is not malformed: the draw that its fields ask for, on its words.
-fn answer_well_formed(sheet: &[u8], text: &mut [u8]) -> usize
+// Answers a sheet that is not malformed: the draw that its fields ask for, on its words, with the third line where `skipped` asks for it.
+fn answer_well_formed(sheet: &[u8], text: &mut [u8], skipped: bool) -> usize
     requires { ⌜ (textLimit ≤ length (now text)) × (malformed (now sheet) ≡ false) ⌝ }
-    ensures { λ r. ⌜ Written (now (text .entry)) 0 (sheetText (now (sheet .entry))) (now (text .exit)) r ⌝ }
+    ensures { λ r. ⌜ Written (now (text .entry)) 0 (sheetTextAs skipped (now (sheet .entry))) (now (text .exit)) r ⌝ }
 {
     let f = fields::read_fields(sheet);
     let count = f.count as usize;
@@ -34,12 +35,13 @@ fn answer_well_formed(sheet: &[u8], text: &mut [u8]) -> usize
     let mut room = words_room();
     let words = &mut room[..count];
     fields::read_words(sheet, offset, words);
-    reply::reply(f, words, text)
+    reply::reply(f, words, text, skipped)
 }
 
-// Answers a sheet. The text's length is handed back; it stands at the start of `text`, which must have 98,304 bytes, or it is left as it was.
-pub fn answer_sheet(sheet: &[u8], text: &mut [u8]) -> usize
-    ensures { λ r. ⌜ (r, now (text .exit)) ≡ answered (now (sheet .entry)) (now (text .entry)) ⌝ }
+// Answers a sheet, in a text that is long enough, with the third line where `skipped` asks for it.
+fn answer_as(sheet: &[u8], text: &mut [u8], skipped: bool) -> usize
+    ensures { λ r. ⌜ (r, now (text .exit)) ≡
+        cond skipped (answeredWithSkipped (now (sheet .entry)) (now (text .entry))) (answered (now (sheet .entry)) (now (text .entry))) ⌝ }
     ensures { λ r. ⌜ r ≤ length (now (text .exit)) ⌝ }
     ensures { λ r. ⌜ r ≡ length (take r (now (text .exit))) ⌝ }
 {
@@ -49,5 +51,23 @@ pub fn answer_sheet(sheet: &[u8], text: &mut [u8]) -> usize
     if fields::is_malformed(sheet) {
         return answer::write_refusal(text, INVALID_SHEET);
     }
-    answer_well_formed(sheet, text)
+    answer_well_formed(sheet, text, skipped)
+}
+
+// Answers a sheet. The text's length is handed back; it stands at the start of `text`, which must have 98,304 bytes, or it is left as it was.
+pub fn answer_sheet(sheet: &[u8], text: &mut [u8]) -> usize
+    ensures { λ r. ⌜ (r, now (text .exit)) ≡ answered (now (sheet .entry)) (now (text .entry)) ⌝ }
+    ensures { λ r. ⌜ r ≤ length (now (text .exit)) ⌝ }
+    ensures { λ r. ⌜ r ≡ length (take r (now (text .exit))) ⌝ }
+{
+    answer_as(sheet, text, false)
+}
+
+// Answers a sheet like `answer_sheet`, and where the draw is not refused adds a third line: the words and the bytes that it skipped.
+pub fn answer_sheet_with_skipped(sheet: &[u8], text: &mut [u8]) -> usize
+    ensures { λ r. ⌜ (r, now (text .exit)) ≡ answeredWithSkipped (now (sheet .entry)) (now (text .entry)) ⌝ }
+    ensures { λ r. ⌜ r ≤ length (now (text .exit)) ⌝ }
+    ensures { λ r. ⌜ r ≡ length (take r (now (text .exit))) ⌝ }
+{
+    answer_as(sheet, text, true)
 }

@@ -9,11 +9,13 @@ ghost use Prim.Native.Nat.{_≤_};
 ghost use lib.Dec.{eqb};
 ghost use lib.ListN.{length, replicate};
 ghost use lib.IntN.{pos};
-ghost use Rattle.distr.specs.Draw.{outcome};
+ghost use Rattle.distr.specs.Answers.{sums, reported};
+ghost use Rattle.distr.specs.Distribution.{skipsOf};
+ghost use Rattle.distr.specs.Draw.{outcome, noTables};
 ghost use Rattle.distr.specs.Constants.{sheetCoefficients};
-ghost use Rattle.sheet_request.specs.Request.{knownKind, requestSigned};
+ghost use Rattle.sheet_request.specs.Request.{knownKind, kindDistr, requestSigned};
 ghost use Rattle.sheet.specs.Patterns.{valueOf, valuesOf};
-ghost use Rattle.sheet.specs.Sheet.{textLimit, fieldsDraw, fieldsText};
+ghost use Rattle.sheet.specs.Sheet.{textLimit, fieldsDraw, fieldsSkipped, fieldsTextAs};
 ghost use Rattle.sheet.specs.Written.{Written};
 
 // Room for signed coefficients.
@@ -58,6 +60,7 @@ fn copy_patterns(values: &mut [u64], coefficients: &[i64])
 fn draw_signed(values: &mut [u64], f: Fields, words: &[u32]) -> Answer
     requires { ⌜ (f .n ≤ sheetCoefficients) × (length (now values) ≡ f .n) ⌝ }
     ensures { λ r. ⌜ outcome r (valuesOf true (now (values .exit))) ≡ requestSigned (f .kind) (f .a) (f .b) (now (words .entry)) (replicate (f .n) (pos 0)) ⌝ }
+    ensures { λ r. ⌜ sums r ≡ reported (r .number) (skipsOf (kindDistr (f .kind) (f .a) (f .b)) (f .n) noTables (now (words .entry))) ⌝ }
 {
     let kind = f.kind;
     let n = f.n as usize;
@@ -74,6 +77,7 @@ fn draw_signed(values: &mut [u64], f: Fields, words: &[u32]) -> Answer
 fn draw(values: &mut [u64], f: Fields, words: &[u32]) -> Answer
     requires { ⌜ (f .n ≤ sheetCoefficients) × (knownKind (f .kind) ≡ true) × (now values ≡ replicate (f .n) 0) ⌝ }
     ensures { λ r. ⌜ outcome r (valuesOf (eqb (f .modulus) 0) (now (values .exit))) ≡ fieldsDraw f (now (words .entry)) ⌝ }
+    ensures { λ r. ⌜ sums r ≡ fieldsSkipped f (now (words .entry)) ⌝ }
 {
     let modulus = f.modulus;
     if modulus == 0 {
@@ -85,10 +89,10 @@ fn draw(values: &mut [u64], f: Fields, words: &[u32]) -> Answer
     sheet_request::draw_encoded(values, kind, a, b, modulus as u64, words)
 }
 
-// The answer of the fields on the words.
-pub(crate) fn reply(f: Fields, words: &[u32], text: &mut [u8]) -> usize
+// The answer of the fields on the words, with the third line where `skipped` asks for it.
+pub(crate) fn reply(f: Fields, words: &[u32], text: &mut [u8], skipped: bool) -> usize
     requires { ⌜ (textLimit ≤ length (now text)) × (f .n ≤ sheetCoefficients) × (knownKind (f .kind) ≡ true) ⌝ }
-    ensures { λ r. ⌜ Written (now (text .entry)) 0 (fieldsText f (now (words .entry))) (now (text .exit)) r ⌝ }
+    ensures { λ r. ⌜ Written (now (text .entry)) 0 (fieldsTextAs skipped f (now (words .entry))) (now (text .exit)) r ⌝ }
 {
     let n = f.n as usize;
     let modulus = f.modulus;
@@ -99,5 +103,6 @@ pub(crate) fn reply(f: Fields, words: &[u32], text: &mut [u8]) -> usize
     if number != 0 {
         return answer::write_refusal(text, number);
     }
-    answer::write_success(text, drawn.place, values, modulus == 0)
+    let end = answer::write_success(text, drawn.place, values, modulus == 0);
+    answer::write_skipped(text, end, skipped, drawn.skipped_words, drawn.skipped_bytes)
 }

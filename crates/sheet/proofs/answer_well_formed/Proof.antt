@@ -1,4 +1,4 @@
--- `answer_well_formed` writes the answer of the sheet's fields on its words.
+-- `answer_well_formed` writes the answer of the sheet's fields on its words, and the third line where it is wanted.
 use mathlib.Core.Path.{_≡_, refl, sym}
 use native.Mathlib.Omega.{arith}
 use borrow.Author.Needs.{needs}
@@ -34,8 +34,10 @@ returns c =
     let words = reply .before .before .before .before .before in
     let room = words .before .before .before in
     let fields = room .before .before .before in
+    let start = fields .before .before .before in
     written-same
-    (sheet-text _ (fields .read-fields .result) _ _ (fields .read-fields .ensures) (fields .before .before .before .pre .1) (sym (sized room)) (words .read-words .ensures))
+    (sheet-text (start .args .skipped) _ (fields .read-fields .result) _ _ (fields .read-fields .ensures) (start .pre .1) (sym (sized room))
+    (words .read-words .ensures))
     (reply .reply .ensures)
 
 pub answer-well-formed-spec : {M : Type 1} → statement M

@@ -17,7 +17,7 @@ unfolding answerText
 returns c =
     let line = c .before .before in
     let head = line .before .before .before .before in
-    written-then (head .write-head .ensures .0) (line .write-line .ensures .0)
+    (written-then (head .write-head .ensures .0) (line .write-line .ensures .0), omega (arith, head .write-head .ensures .1, line .write-line .ensures .1))
 
 pub write-success-spec : {M : Type 1} → statement M
 write-success-spec = tie.close (tie.spec (λ c κs. search needs) write-line-requires (λ c. search needs) returns)

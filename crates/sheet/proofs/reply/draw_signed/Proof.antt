@@ -4,8 +4,6 @@ use native.Mathlib.Omega.{arith}
 use borrow.Author.Needs.{needs}
 use lib.ListN.{length, take, length-replicate}
 use lib.IntN.{pos}
-use Rattle.distr.specs.Draw.{outcome}
-use Rattle.sheet_request.specs.Request.{requestSigned}
 use Rattle.distr.proofs.Writing.{take-replicate}
 use Rattle.sheet.proofs.Answers.{prefix-length}
 use Rattle.sheet.proofs.reply.draw_signed.Statement.{statement}
@@ -34,8 +32,7 @@ returns c =
     let start = room .before .before .before .before in
     let f = start .args .f in
     let zeros = ap (take (f .n)) (room .coefficients-room .ensures) ∙ take-replicate (f .n) 4096 (pos 0) (start .pre .0) in
-    ap (outcome (drawn .draw-signed .result)) (copied .copy-patterns .ensures) ∙ drawn .draw-signed .ensures
-    ∙ ap (requestSigned (f .kind) (f .a) (f .b) (start .args .words .now)) zeros
+    (rw (copied .copy-patterns .ensures, ← zeros) (drawn .draw-signed .ensures .0), rw (← sized room) at (drawn .draw-signed .ensures .1))
 
 pub draw-signed-spec : {M : Type 1} → statement M
 draw-signed-spec =
