@@ -9,10 +9,32 @@ use crate::{
 };
 
 const RANGE: u64 = 1 << 32;
+/// Longer draws have no words at the rounding of a layer's test: these take a search.
+const SEARCHED: usize = 65;
+
+/// The words that a draw is given before those of its seed.
+#[derive(Clone, Copy, Debug, PartialEq)]
+pub enum Given {
+    Nothing,
+    /// Words at the edges of the draw; the choice inside a layered try skips none of them.
+    Edges,
+    /// Words at the edges of the draw, with skipped ones for every choice.
+    Skips,
+}
 
 /// Words for a draw of n coefficients. They may be too few or too many.
-pub fn words(distr: &Distr, n: usize, sampler: &Sampler, tables: &Tables, random: &mut Random) -> Vec<u32> {
+pub fn words(
+    given: Given,
+    distr: &Distr,
+    n: usize,
+    sampler: &Sampler,
+    tables: &Tables,
+    random: &mut Random,
+) -> Vec<u32> {
     let mut list = Vec::new();
+    if given == Given::Nothing {
+        return list;
+    }
     match distr.kind {
         Kind::UniformBinary | Kind::SparseTernary => {
             for _ in 0..n / 16 + 1 {
@@ -57,8 +79,9 @@ pub fn words(distr: &Distr, n: usize, sampler: &Sampler, tables: &Tables, random
             }
         }
         Kind::Gaussian | Kind::ErrorGaussian => {
+            let sampler = (n <= SEARCHED).then_some(sampler);
             for _ in 0..3 * n {
-                layered_try(sampler, tables, random, &mut list);
+                layered_try(given, sampler, tables, random, &mut list);
             }
         }
     }
@@ -98,16 +121,22 @@ fn beside_bound(bounds: &[u64], random: &mut Random, list: &mut Vec<u32>) {
     }
 }
 
+/// Words that a choice among k skips, if there are such: none, or a few.
+fn skipped(k: u64, random: &mut Random, list: &mut Vec<u32>) {
+    let end = k * (RANGE / k);
+    while end < RANGE && random.below(3) == 0 {
+        let any = end + random.below(RANGE - end);
+        list.push(random.pick(&[end, RANGE - 1, any]) as u32);
+    }
+}
+
 /// Words for one choice among k: some that are skipped, then one that is not.
 fn choice(k: u64, random: &mut Random, list: &mut Vec<u32>) {
     let Some(times) = RANGE.checked_div(k).filter(|&times| times > 0) else {
         return;
     };
+    skipped(k, random, list);
     let end = k * times;
-    while end < RANGE && random.below(3) == 0 {
-        let any = end + random.below(RANGE - end);
-        list.push(random.pick(&[end, RANGE - 1, any]) as u32);
-    }
     let any = random.below(end);
     list.push(random.pick(&[0, k - 1, end - 1, end - k, any]) as u32);
 }
@@ -122,8 +151,8 @@ fn insertion(n: usize, inserted: usize, signs: bool, random: &mut Random, list: 
     }
 }
 
-/// Words for one try of the layered draw.
-fn layered_try(sampler: &Sampler, tables: &Tables, random: &mut Random, list: &mut Vec<u32>) {
+/// Words for one try of the layered draw, at the rounding of its test where the sampler is there to be asked for it.
+fn layered_try(given: Given, sampler: Option<&Sampler>, tables: &Tables, random: &mut Random, list: &mut Vec<u32>) {
     let layers = tables.endpoints.len() as u64 - 1;
     let layer = random.below(layers);
     let [inner, outer] = [0, 1].map(|next| tables.endpoints[layer as usize + next]);
@@ -131,11 +160,14 @@ fn layered_try(sampler: &Sampler, tables: &Tables, random: &mut Random, list: &m
     let magnitude = random.pick(&[0, inner, (inner + 1).min(outer), outer, any]);
     list.push((layer + layers * random.below(RANGE / layers)) as u32);
     list.push(random.pick(&[0, 0x7fff_ffff, 0x8000_0000, u32::MAX]));
+    if given == Given::Skips {
+        skipped(outer + 1, random, list);
+    }
     list.push((magnitude + (outer + 1) * random.below(RANGE / (outer + 1))) as u32);
     if magnitude == 0 {
         beside(threshold(0.5 / tables.heights[0]) as u64, random, list);
     } else if magnitude > inner {
-        let edge = first_rejected(sampler, tables, layer as u32, magnitude as u32);
+        let edge = sampler.map_or(0, |sampler| first_rejected(sampler, tables, layer as u32, magnitude as u32));
         let any = random.below(RANGE);
         list.push(random.pick(&[edge, edge.saturating_sub(1), any]).min(RANGE - 1) as u32);
     }

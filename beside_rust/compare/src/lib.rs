@@ -9,6 +9,7 @@ pub mod prepared;
 #[cfg(feature = "engine")]
 pub mod rattle_side;
 pub mod rust_side;
+pub mod skips;
 pub mod word_list;
 
 pub use primus_distr::Tables;
@@ -56,11 +57,21 @@ impl Distr {
     }
 }
 
-/// Document 01's number, 0 for success, and the place.
+/// Document 01's number, 0 for success, and the place; document 02's sums: the words that the choices passed over, and the
+/// bytes that uniform ternary rejected.
 #[derive(Clone, Copy, Debug, PartialEq, Eq)]
 pub struct Answer {
     pub number: u32,
     pub place: usize,
+    pub skipped_words: u64,
+    pub skipped_bytes: u64,
+}
+
+impl Answer {
+    /// "A refused call reports zeros."
+    pub fn refused(number: u32, place: usize) -> Self {
+        Self { number, place, skipped_words: 0, skipped_bytes: 0 }
+    }
 }
 
 /// One side of the comparison.
@@ -98,6 +109,11 @@ pub trait Engine {
         place: usize,
         output: &mut [u64],
     ) -> Answer;
+
+    /// The answer of a draw of n coefficients that succeeded, with what this side leaves to be counted in the words it read.
+    fn counted(&self, _sampler: &Self::Sampler, _n: usize, _read: &[u32], answer: Answer) -> Answer {
+        answer
+    }
 }
 
 /// Which draw, into an output of which length.
@@ -106,6 +122,16 @@ pub enum Call {
     Signed { n: usize },
     Encoded { n: usize, modulus: u64 },
     Crt { length: usize, count: usize, moduli: Vec<u64> },
+}
+
+impl Call {
+    /// How many coefficients are drawn. A CRT draw may have a wrong shape: no more of them than its output has elements.
+    pub fn coefficients(&self) -> usize {
+        match self {
+            Self::Signed { n } | Self::Encoded { n, .. } => *n,
+            Self::Crt { length, count, .. } => *count.min(length),
+        }
+    }
 }
 
 /// What comes of a draw: its answer and the output, signed coefficients by their bits.
@@ -120,6 +146,23 @@ pub const UNTOUCHED: u64 = 0x7777_7777_7777_7777;
 
 /// Puts one call to one side.
 pub fn ask<E: Engine>(
+    engine: &E,
+    sampler: &E::Sampler,
+    call: &Call,
+    tables: &Tables,
+    words: &[u32],
+    place: usize,
+) -> Outcome {
+    let mut outcome = drawn(engine, sampler, call, tables, words, place);
+    let answer = outcome.answer;
+    if answer.number == 0 {
+        let read = words.get(place..answer.place).unwrap_or_default();
+        outcome.answer = engine.counted(sampler, call.coefficients(), read, answer);
+    }
+    outcome
+}
+
+fn drawn<E: Engine>(
     engine: &E,
     sampler: &E::Sampler,
     call: &Call,

@@ -1,4 +1,4 @@
-//! Document 01 in plain Rust, written from its text: the other side where the engine is not linked.
+//! Document 01, and 02's sums, in plain Rust, written from their text: the other side where the engine is not linked.
 
 use crate::{Answer, Distr, Engine, Kind, Tables, rust_side::RustSide};
 
@@ -6,10 +6,12 @@ pub struct ModelSide;
 
 const FULL: u128 = 1 << 64;
 
-/// What is left of the words; `None` is a word that is not there.
+/// What is left of the words, and what was skipped of those before; `None` is a word that is not there.
 struct Left<'a> {
     words: &'a [u32],
     place: usize,
+    skipped_words: u64,
+    skipped_bytes: u64,
 }
 
 impl Left<'_> {
@@ -23,12 +25,14 @@ impl Left<'_> {
         Some(self.word()? + self.word()? * (1 << 32))
     }
 
+    /// "Each choice among k reports the words it passed over."
     fn choose(&mut self, k: u64) -> Option<u64> {
         loop {
             let word = self.word()?;
             if word < k * ((1 << 32) / k) {
                 return Some(word % k);
             }
+            self.skipped_words += 1;
         }
     }
 
@@ -91,6 +95,8 @@ fn coefficients(distr: &Distr, n: usize, tables: &Tables, left: &mut Left) -> Op
                 let byte = bytes.remove(0);
                 if byte < 243 {
                     list.extend((0..5).map(|at| ternary(byte / 3u64.pow(at) % 3)));
+                } else {
+                    left.skipped_bytes = left.skipped_bytes.saturating_add(1);
                 }
             }
             list.truncate(n);
@@ -259,15 +265,16 @@ fn drawn<T: Copy>(
     write: impl FnOnce(&[i64], &mut [T]),
 ) -> Answer {
     if let Some(&number) = numbers.iter().find(|&&number| number != 0) {
-        return Answer { number, place };
+        return Answer::refused(number, place);
     }
-    let mut left = Left { words, place };
+    let mut left = Left { words, place, skipped_words: 0, skipped_bytes: 0 };
     let Some(list) = coefficients(&mut left) else {
         output.fill(zero);
-        return Answer { number: 23, place };
+        return Answer::refused(23, place);
     };
     write(&list, output);
-    Answer { number: 0, place: left.place }
+    let Left { place, skipped_words, skipped_bytes, .. } = left;
+    Answer { number: 0, place, skipped_words, skipped_bytes }
 }
 
 /// "−m becomes modulus − m, zero stays 0."

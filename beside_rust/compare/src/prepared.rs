@@ -1,7 +1,8 @@
 //! A sampler with its tables, and the draws that are put to it.
 
 use crate::{
-    Call, Distr, Engine, Kind, Tables, ask, crafted,
+    Call, Distr, Engine, Kind, Tables, ask,
+    crafted::{self, Given},
     rust_side::{RustSide, Sampler, own_tables},
     word_list::{Random, WordList},
 };
@@ -79,18 +80,13 @@ impl Prepared {
         }
     }
 
-    /// The draw with crafted words or with words from a seed, where the words just suffice, do not, or are left over.
-    pub fn draw(&self, call: Call, crafted: bool, random: &mut Random) -> Draw {
+    /// The draw with the given words and others from a seed, where the words just suffice, do not, or are left over.
+    pub fn draw(&self, call: Call, given: Given, random: &mut Random) -> Draw {
         let place = random.below(4) as usize;
-        let n = match &call {
-            Call::Signed { n } | Call::Encoded { n, .. } => *n,
-            Call::Crt { length, count, .. } => *count.min(length),
-        };
-        let mut given = Vec::new();
-        if crafted {
-            given = crafted::words(&self.distr, n, &self.sampler, &self.tables, random);
-            given.splice(0..0, (0..place).map(|at| at as u32));
-        }
+        let n = call.coefficients();
+        let before = if given == Given::Nothing { 0 } else { place as u32 };
+        let mut given = crafted::words(given, &self.distr, n, &self.sampler, &self.tables, random);
+        given.splice(0..0, 0..before);
         let tries = if self.tables.endpoints.is_empty() { 3 } else { 12 };
         let mut words = WordList { count: given.len() + tries * n + 64, seed: random.seed(), given };
         let answer = ask(&RustSide, &self.sampler, &call, &self.tables, &words.words(), place).answer;

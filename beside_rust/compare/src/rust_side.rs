@@ -104,13 +104,40 @@ impl Engine for RustSide {
         let drawn = draw(words, place, |rng| sampler.sample_crt_to(output, count, moduli, rng));
         settled(drawn, place, output)
     }
+
+    /// Which bytes uniform ternary rejects, no one but the Rust's own loop sees: the words that it read are gone over again.
+    fn counted(&self, sampler: &Sampler, n: usize, read: &[u32], answer: Answer) -> Answer {
+        match sampler {
+            Sampler::Secret(sampler) if sampler.distr() == SecretKeyDistr::UniformTernary => {
+                Answer { skipped_bytes: rejected_bytes(read, n.div_ceil(5)), ..answer }
+            }
+            _ => answer,
+        }
+    }
 }
 
-/// Runs a draw: the new place, or the number of its panic.
-fn draw(words: &[u32], place: usize, run: impl FnOnce(&mut Words)) -> Result<usize, u32> {
+/// The bytes from 243 on before the last of so many accepted ones. Those after it, in the last word, are not looked at.
+fn rejected_bytes(read: &[u32], accepted: usize) -> u64 {
+    let (mut left, mut rejected) = (accepted, 0);
+    for word in read {
+        assert_ne!(left, 0, "the Rust read a word that it does not need");
+        for byte in word.to_le_bytes() {
+            match byte {
+                _ if left == 0 => {}
+                243.. => rejected += 1,
+                _ => left -= 1,
+            }
+        }
+    }
+    assert_eq!(left, 0, "the Rust read too few words");
+    rejected
+}
+
+/// Runs a draw: the new place and the words that its choices passed over, or the number of its panic.
+fn draw(words: &[u32], place: usize, run: impl FnOnce(&mut Words)) -> Result<(usize, u64), u32> {
     let mut rng = Words::new(words, place);
     match catch_unwind(AssertUnwindSafe(|| run(&mut rng))) {
-        Ok(()) => Ok(rng.place()),
+        Ok(()) => Ok((rng.place(), rng.passed_over())),
         Err(panic) if panic.is::<OutOfWords>() => Err(23),
         Err(panic) => {
             let text = panic.downcast_ref::<String>().map(String::as_str);
@@ -129,13 +156,13 @@ fn draw(words: &[u32], place: usize, run: impl FnOnce(&mut Words)) -> Result<usi
 }
 
 /// "23 keeps the place and writes zeros over the output": the Rust leaves what it had written.
-fn settled<T: Default + Copy>(drawn: Result<usize, u32>, place: usize, output: &mut [T]) -> Answer {
+fn settled<T: Default + Copy>(drawn: Result<(usize, u64), u32>, place: usize, output: &mut [T]) -> Answer {
     if drawn == Err(23) {
         output.fill(T::default());
     }
     match drawn {
-        Ok(place) => Answer { number: 0, place },
-        Err(number) => Answer { number, place },
+        Ok((place, skipped_words)) => Answer { number: 0, place, skipped_words, skipped_bytes: 0 },
+        Err(number) => Answer::refused(number, place),
     }
 }
 

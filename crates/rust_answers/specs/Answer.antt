@@ -26,6 +26,6 @@ digest offset d (x ∷ output) = digest offset (digestWith offset d x) output
 unfoldable pub shown : ℕ → List ℕ → List ℕ
 shown offset output = cond (leb (length output) 66) output (digest offset 1 output ∷ [])
 
--- What is stored of an answer: the number, the new place and, for number 0, the output.
-unfoldable pub answerLine : ℕ → ℕ → ℕ → List ℕ → List ℕ
-answerLine offset number place output = number ∷ place ∷ cond (eqb number 0) (shown offset output) []
+-- What is stored of an answer: the number, the new place, how many words and how many bytes were skipped and, for number 0, the output.
+unfoldable pub answerLine : ℕ → ℕ → ℕ → ℕ → ℕ → List ℕ → List ℕ
+answerLine offset number place words bytes output = number ∷ place ∷ words ∷ bytes ∷ cond (eqb number 0) (shown offset output) []

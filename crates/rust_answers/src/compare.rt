@@ -56,15 +56,27 @@ fn is_shown(offset: u64, stored: &[u64], output: &[u64]) -> bool
     same(stored, &digests)
 }
 
-// Whether a stored answer is this one: number, place and, for number 0, the output. The offset is what a digest adds to each element.
-pub(crate) fn agrees(offset: u64, stored: &[u64], number: u32, place: usize, output: &[u64]) -> bool
-    ensures { λ r. ⌜ r ≡ sameAs (now (stored .entry)) (answerLine offset number place (now (output .entry))) ⌝ }
+// Whether a stored answer is this one: number, place, the words and the bytes that were skipped and, for number 0, the output. The offset
+// is what a digest adds to each element.
+pub(crate) fn agrees(
+    offset: u64,
+    stored: &[u64],
+    number: u32,
+    place: usize,
+    skipped_words: u64,
+    skipped_bytes: u64,
+    output: &[u64],
+) -> bool
+    ensures { λ r. ⌜ r ≡ sameAs (now (stored .entry)) (answerLine offset number place «skipped_words» «skipped_bytes» (now (output .entry))) ⌝ }
 {
-    if stored.len() < 2 {
+    if stored.len() < 4 {
         return false;
     }
-    let begins = (stored[0] == number as u64) & (stored[1] == place as u64);
-    let tail = &stored[2..];
+    let begins = (stored[0] == number as u64)
+        & (stored[1] == place as u64)
+        & (stored[2] == skipped_words)
+        & (stored[3] == skipped_bytes);
+    let tail = &stored[4..];
     if number != 0 {
         return begins & (tail.len() == 0);
     }

@@ -65,7 +65,9 @@ fn signed(
     words: &[u32],
     place: usize,
     output: &mut [u64],
-    new_place: &mut usize,
+    after: &mut usize,
+    skipped_words: &mut u64,
+    skipped_bytes: &mut u64,
 ) -> u32 {
     let n = output.len();
     if LENGTH < n {
@@ -87,50 +89,69 @@ fn signed(
         words,
         place,
         coefficients,
-        new_place,
+        after,
+        skipped_words,
+        skipped_bytes,
     );
     put_residues(coefficients, output);
     number
 }
 
-// The number of a draw of residues: of one modulus, which stands at index 9, or of several, with the coefficients at 9.
-fn residues(
+// The number of a draw of residues of one modulus, which stands at index 9.
+fn encoded(
     room: &[u64],
     heights: &[f64],
     curve: &[f64],
     words: &[u32],
     place: usize,
     output: &mut [u64],
-    new_place: &mut usize,
+    after: &mut usize,
+    skipped_words: &mut u64,
+    skipped_bytes: &mut u64,
 ) -> u32 {
     let values = kept(room, ANSWER);
     let distr = distr_of(values);
-    let at_9 = value_at(values, 9);
-    if value_at(values, 0) == 3 {
-        return beside::beside_encoded(
-            distr.kind,
-            distr.a,
-            distr.b,
-            distr.p,
-            distr.q,
-            at_9,
-            entries(room, BOUNDS),
-            entries(room, ENDPOINTS),
-            heights,
-            curve,
-            words,
-            place,
-            output,
-            new_place,
-        );
-    }
+    beside::beside_encoded(
+        distr.kind,
+        distr.a,
+        distr.b,
+        distr.p,
+        distr.q,
+        value_at(values, 9),
+        entries(room, BOUNDS),
+        entries(room, ENDPOINTS),
+        heights,
+        curve,
+        words,
+        place,
+        output,
+        after,
+        skipped_words,
+        skipped_bytes,
+    )
+}
+
+// The number of a draw of residues of several moduli, with the coefficients at index 9.
+fn crt(
+    room: &[u64],
+    heights: &[f64],
+    curve: &[f64],
+    words: &[u32],
+    place: usize,
+    output: &mut [u64],
+    after: &mut usize,
+    skipped_words: &mut u64,
+    skipped_bytes: &mut u64,
+) -> u32 {
+    let values = kept(room, ANSWER);
+    let distr = distr_of(values);
     beside::beside_crt(
         distr.kind,
         distr.a,
         distr.b,
         distr.p,
         distr.q,
-        at_9 as usize,
+        value_at(values, 9) as usize,
         moduli_of(values),
         entries(room, BOUNDS),
         entries(room, ENDPOINTS),
@@ -139,8 +160,59 @@ fn residues(
         words,
         place,
         output,
-        new_place,
+        after,
+        skipped_words,
+        skipped_bytes,
     )
+}
+
+// The number of a draw, by the line's tag.
+fn draw(
+    room: &[u64],
+    heights: &[f64],
+    curve: &[f64],
+    words: &[u32],
+    place: usize,
+    output: &mut [u64],
+    after: &mut usize,
+    skipped_words: &mut u64,
+    skipped_bytes: &mut u64,
+) -> u32 {
+    match value_at(room, ANSWER) {
+        2 => signed(
+            room,
+            heights,
+            curve,
+            words,
+            place,
+            output,
+            after,
+            skipped_words,
+            skipped_bytes,
+        ),
+        3 => encoded(
+            room,
+            heights,
+            curve,
+            words,
+            place,
+            output,
+            after,
+            skipped_words,
+            skipped_bytes,
+        ),
+        0 | 1 | 4..=0xffff_ffff_ffff_ffff => crt(
+            room,
+            heights,
+            curve,
+            words,
+            place,
+            output,
+            after,
+            skipped_words,
+            skipped_bytes,
+        ),
+    }
 }
 
 // Fills a room with the reals of a table that is kept. Hands back how many there are.
@@ -156,7 +228,9 @@ fn number_of(
     words: &[u32],
     place: usize,
     output: &mut [u64],
-    new_place: &mut usize,
+    after: &mut usize,
+    skipped_words: &mut u64,
+    skipped_bytes: &mut u64,
 ) -> u32 {
     let mut all_heights = reals_room();
     let mut all_curve = reals_room();
@@ -164,10 +238,17 @@ fn number_of(
     let curve_count = reals_of(room, CURVE, &mut all_curve);
     let heights = reals_part(&all_heights, heights_count);
     let curve = reals_part(&all_curve, curve_count);
-    if value_at(room, ANSWER) == 2 {
-        return signed(room, heights, curve, words, place, output, new_place);
-    }
-    residues(room, heights, curve, words, place, output, new_place)
+    draw(
+        room,
+        heights,
+        curve,
+        words,
+        place,
+        output,
+        after,
+        skipped_words,
+        skipped_bytes,
+    )
 }
 
 // What a digest adds to each element: to a signed coefficient 4,096.
@@ -175,7 +256,8 @@ fn offset_of(tag: u64) -> u64 {
     if tag == 2 { 4096 } else { 0 }
 }
 
-// A draw by words. The length of the output stands at index 8; the place and then the answer follow the words.
+// A draw by words. The length of the output stands at index 8; the place and then the answer follow the words. The sums start at 9, so
+// that those which a call does not write are noticed.
 fn drawn(room: &[u64], words: &[u32], place: usize, stored: &[u64]) -> bool {
     let values = kept(room, ANSWER);
     let n = size_at(values, 8);
@@ -184,13 +266,25 @@ fn drawn(room: &[u64], words: &[u32], place: usize, stored: &[u64]) -> bool {
     }
     let mut residues = residues_room();
     let output = &mut residues[0..n];
-    let mut new_place = 0;
-    let number = number_of(room, words, place, output, &mut new_place);
+    let mut after = 0;
+    let mut skipped_words = 9;
+    let mut skipped_bytes = 9;
+    let number = number_of(
+        room,
+        words,
+        place,
+        output,
+        &mut after,
+        &mut skipped_words,
+        &mut skipped_bytes,
+    );
     agrees(
         offset_of(value_at(values, 0)),
         stored,
         number,
-        new_place,
+        after,
+        skipped_words,
+        skipped_bytes,
         output,
     )
 }

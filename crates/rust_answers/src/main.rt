@@ -1,7 +1,7 @@
 // Asks the calls of `beside` for what the Rust answered, in the files that its arguments name. For each file it prints a line with the
 // number of answers and of those that agree, and before it one for each line of the file that does not; at the end the totals.
-// Then it does the same with altered.txt, a few of the stored lines with a number, a place or a coefficient changed or not well formed:
-// a comparison that always agrees would show there.
+// Then it does the same with altered.txt, a few of the stored lines with a number, a place, a sum or a coefficient changed or not well
+// formed: a comparison that always agrees would show there.
 mod compare;
 mod draws;
 mod file;

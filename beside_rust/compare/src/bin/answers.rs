@@ -4,17 +4,22 @@
 use std::{env, fmt::Write, fs, path::Path};
 
 use compare::{
-    Call, Distr, Engine, Kind, Tables, ask,
+    Answer, Call, Distr, Engine, Kind, Tables, ask,
+    crafted::Given,
     families::{Family, LENGTHS, LONG_LENGTHS, makings},
     prepared::{Draw, Prepared},
     rust_side::{RustSide, print_no_refusals},
-    word_list::{Random, digest},
+    skips::{self, LAST, Skipping},
+    word_list::{Random, WordList, digest},
 };
 
 /// Outputs up to this length are written out, longer ones by their digest.
 const SHOWN: usize = 66;
 /// A reader may hold a whole file in an array of so many bytes.
 const LARGEST_FILE: usize = 1 << 17;
+/// The draws that are put down one by one: the deviation of the layered ones, and the moduli.
+const SKIPPING_DEVIATION: f64 = 21.5;
+const MODULI: [u64; 2] = [12_289, 4_294_967_311];
 
 fn main() {
     let folder = env::args().nth(1).expect("the folder to write into");
@@ -38,6 +43,7 @@ fn main() {
             write(&format!("{}_{}", family.name(), prepared.largest()), text);
         }
     }
+    write("skips", skip_lines());
     println!("{lines} lines");
 }
 
@@ -55,9 +61,45 @@ fn draw_lines(family: Family, deviations: &[f64], random: &mut Random) -> String
             }
             for call in calls {
                 let crafted = n <= crafted_up_to && random.below(2) == 0;
-                text += &draw_line(&prepared, &prepared.draw(call, crafted, random));
+                let given = if crafted { Given::Edges } else { Given::Nothing };
+                text += &draw_line(&prepared, &prepared.draw(call, given, random));
             }
         }
+    }
+    text
+}
+
+/// The draws that are put down one by one, after the tables of the layered ones.
+fn skip_lines() -> String {
+    let tables = Prepared::new(Distr::real(Kind::Gaussian, SKIPPING_DEVIATION, 0.0)).tables;
+    let draws = skips::draws(SKIPPING_DEVIATION, &tables);
+    table_lines(&tables) + &draws.iter().map(skipping_lines).collect::<String>()
+}
+
+/// A draw with its own words, with others before and behind, of two moduli, and without its last word.
+fn skipping_lines(skipping: &Skipping) -> String {
+    let Skipping { distr, n, words, skipped_words, skipped_bytes } = skipping;
+    let (n, count) = (*n, words.len());
+    let prepared = Prepared::new(*distr);
+    let mut text = String::new();
+    let mut line = |call: Call, given: Vec<u32>, place, answer| {
+        let words = WordList { count: given.len(), seed: 1, given };
+        let draw = Draw { distr: *distr, call, words, place };
+        let outcome = ask(&RustSide, &prepared.sampler, &draw.call, &prepared.tables, &draw.words.words(), place);
+        assert_eq!(outcome.answer, answer, "{draw:?}");
+        text += &draw_line(&prepared, &draw);
+    };
+    let sums = |place| Answer { number: 0, place, skipped_words: *skipped_words, skipped_bytes: *skipped_bytes };
+    line(Call::Signed { n }, words.clone(), 0, sums(count));
+    let among_others = [&[LAST, LAST], &words[..], &[LAST]].concat();
+    line(Call::Encoded { n, modulus: MODULI[0] }, among_others.clone(), 2, sums(2 + count));
+    if matches!(distr.kind, Kind::CenteredBinomial | Kind::ErrorGaussian) {
+        let shape = |n| Call::Crt { length: MODULI.len() * n, count: n, moduli: MODULI.to_vec() };
+        line(shape(n), among_others.clone(), 2, sums(2 + count));
+        line(shape(0), among_others, 2, Answer { number: 0, place: 2, skipped_words: 0, skipped_bytes: 0 });
+    }
+    if count > 0 {
+        line(Call::Signed { n }, words[..count - 1].to_vec(), 0, Answer::refused(23, 0));
     }
     text
 }
@@ -77,8 +119,9 @@ fn draw_line(prepared: &Prepared, draw: &Draw) -> String {
         }
     };
     write!(line, " {} {} {}{}", words.count, words.seed, words.given.len(), joined(&words.given)).unwrap();
-    write!(line, " {place} {} {}", outcome.answer.number, outcome.answer.place).unwrap();
-    if outcome.answer.number == 0 {
+    let Answer { number, place: new_place, skipped_words, skipped_bytes } = outcome.answer;
+    write!(line, " {place} {number} {new_place} {skipped_words} {skipped_bytes}").unwrap();
+    if number == 0 {
         let signed = matches!(call, Call::Signed { .. });
         if outcome.output.len() > SHOWN {
             let lifted = outcome.output.iter().map(|&value| value.wrapping_add(if signed { 4_096 } else { 0 }));

@@ -61,7 +61,7 @@ impl Bench {
         place: usize,
     ) -> usize {
         let words = &self.words;
-        let Answer { number, place } = match call {
+        let Answer { number, place, .. } = match call {
             Call::Signed { n } => engine.signed(sampler, tables, words, place, &mut self.signed[..*n]),
             Call::Encoded { n, modulus } => {
                 engine.encoded(sampler, *modulus, tables, words, place, &mut self.residues[..*n])

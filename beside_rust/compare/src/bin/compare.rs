@@ -1,10 +1,12 @@
-//! Puts the same requests to the Rust and to the other side, and compares number, place and every element of the output.
+//! Puts the same requests to the Rust and to the other side, and compares number, place, both sums of what was skipped, and
+//! every element of the output.
 //! Arguments: how many random requests for each family (1,000,000 where none is given), and a seed.
 
 use std::env;
 
 use compare::{
     Call, Engine, Kind, OtherSide, Outcome, UNTOUCHED, ask,
+    crafted::Given,
     families::{Family, makings, random_request},
     gaussians::gaussians,
     prepared::{Draw, Prepared},
@@ -24,6 +26,9 @@ struct Counts {
     short: u64,
     refused: u64,
     coefficients: u64,
+    /// The requests that skipped words, and those that rejected bytes.
+    skipped_words: u64,
+    skipped_bytes: u64,
     differing: u64,
     /// The disagreement with the fewest words and coefficients.
     smallest: Option<(usize, String)>,
@@ -41,6 +46,8 @@ impl Counts {
             _ => self.refused += 1,
         }
         self.coefficients += rust.output.len() as u64;
+        self.skipped_words += u64::from(rust.answer.skipped_words > 0);
+        self.skipped_bytes += u64::from(rust.answer.skipped_bytes > 0);
         let refused = ![0, 23].contains(&rust.answer.number);
         assert!(!refused || rust.output.iter().all(|&element| element == UNTOUCHED));
         if rust != other {
@@ -53,11 +60,12 @@ impl Counts {
     }
 
     fn print(&self, name: &str, what: &str) {
-        let Self { answered, short, refused, coefficients, differing, smallest } = self;
+        let Self { answered, short, refused, coefficients, skipped_words, skipped_bytes, differing, smallest } = self;
         if answered + short + refused == 0 {
             return;
         }
-        println!("{name:18} {what:12} {answered:>9} {short:>9} {refused:>9} {coefficients:>12} {differing:>9}");
+        print!("{name:18} {what:12} {answered:>9} {short:>9} {refused:>9} {coefficients:>12}");
+        println!(" {skipped_words:>13} {skipped_bytes:>14} {differing:>9}");
         if let Some((_, text)) = smallest {
             println!("{text}");
         }
@@ -78,7 +86,8 @@ fn main() {
     print_no_refusals();
     let differing = makings().iter().filter(|distr| RustSide.make(distr).err() != OtherSide.make(distr).err()).count();
     println!("makings: {} compared, {differing} differ", makings().len());
-    println!("{:31} {:>9} {:>9} {:>9} {:>12} {:>9}", "", "answered", "short", "refused", "elements", "differ");
+    print!("{:31} {:>9} {:>9} {:>9} {:>12}", "", "answered", "short", "refused", "elements");
+    println!(" {:>13} {:>14} {:>9}", "skipped words", "rejected bytes", "differ");
     let mut disagreements = differing as u64;
     for family in Family::ALL {
         let pool = gaussians_of(family, &mut random);
@@ -128,8 +137,8 @@ fn random_comparison(family: Family, pool: &[Prepared], random: &mut Random, cou
         Call::Encoded { .. } => 1,
         Call::Crt { .. } => 2,
     };
-    let crafted = n <= 65 && random.below(2) == 0;
-    let draw = prepared.draw(call, crafted, random);
+    let given = random.pick(&[Given::Nothing, Given::Nothing, Given::Edges, Given::Skips]);
+    let draw = prepared.draw(call, given, random);
     counts[what].compare(prepared, &draw, &draw.words.words());
 }
 

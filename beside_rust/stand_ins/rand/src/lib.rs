@@ -6,6 +6,9 @@ use std::panic::resume_unwind;
 pub trait Rng {
     fn next_u32(&mut self) -> u32;
     fn next_u64(&mut self) -> u64;
+
+    /// A choice has passed over the word that it read last.
+    fn pass_over(&mut self);
 }
 
 pub trait CryptoRng: Rng {}
@@ -19,6 +22,11 @@ impl<R: Rng + ?Sized> Rng for &mut R {
     #[inline]
     fn next_u64(&mut self) -> u64 {
         (**self).next_u64()
+    }
+
+    #[inline]
+    fn pass_over(&mut self) {
+        (**self).pass_over();
     }
 }
 
@@ -36,10 +44,11 @@ pub trait RngExt: Rng {
 
 impl<R: Rng + ?Sized> RngExt for R {}
 
-/// The lent list of words, and the place of the next one.
+/// The lent list of words, the place of the next one, and how many of those before it the choices passed over.
 pub struct Words<'a> {
     words: &'a [u32],
     place: usize,
+    passed_over: u64,
 }
 
 /// The panic of a draw that needs a word which is not there. It passes by the panic hook.
@@ -53,11 +62,15 @@ fn out_of_words() -> ! {
 
 impl<'a> Words<'a> {
     pub fn new(words: &'a [u32], place: usize) -> Self {
-        Self { words, place }
+        Self { words, place, passed_over: 0 }
     }
 
     pub fn place(&self) -> usize {
         self.place
+    }
+
+    pub fn passed_over(&self) -> u64 {
+        self.passed_over
     }
 }
 
@@ -75,6 +88,13 @@ impl Rng for Words<'_> {
         let Some(&[low, high]) = self.words.get(self.place..self.place + 2) else { out_of_words() };
         self.place += 2;
         u64::from(low) | u64::from(high) << 32
+    }
+
+    /// Out of line: what passes over nothing is to take no longer for the counting.
+    #[cold]
+    #[inline(never)]
+    fn pass_over(&mut self) {
+        self.passed_over += 1;
     }
 }
 
@@ -175,6 +195,7 @@ pub mod distr {
                 if word < self.end {
                     return self.low.plus(word % self.count);
                 }
+                rng.pass_over();
             }
         }
     }
