@@ -167,7 +167,7 @@ fn crt(
 }
 
 // The number of a draw, by the line's tag.
-fn draw(
+fn by_tag(
     room: &[u64],
     heights: &[f64],
     curve: &[f64],
@@ -238,7 +238,7 @@ fn number_of(
     let curve_count = reals_of(room, CURVE, &mut all_curve);
     let heights = reals_part(&all_heights, heights_count);
     let curve = reals_part(&all_curve, curve_count);
-    draw(
+    by_tag(
         room,
         heights,
         curve,
