@@ -3,29 +3,26 @@
 use mathlib.Core.Path.{_≡_, refl, sym, ap, ap₂, _∙_}
 use mathlib.Core.Bool.{Bool, true, false}
 use mathlib.Core.List.{List, [], _∷_, _++_, map, append-assoc, append-nil}
-use Prim.Native.Nat.{ℕ, zero, suc, _+_, _-_, _*_, _/_, _%_, _<_, _≤_}
-use native.Mathlib.Nat.{div-add-mod', mul-one, mul-zero}
+use Prim.Native.Nat.{ℕ, zero, suc, _+_, _-_, _*_, _/_, _%_, _^_, _<_, _≤_}
+use native.Mathlib.Nat.{div-add-mod', mod-le, mul-one, mul-zero}
 use native.Mathlib.Omega.{arith}
 use mir.Syntax.{w64}
 use mir.Val.{boolByte, SFits}
 use borrow.Author.Tests.{ltb-true, ltb-false}
 use borrow.Rule.Slice.PartMut.{midOf, postOf, putMid, mid-len}
-use lib.Dec.{ltb}
-use lib.ListN.{length, take, drop, set, replicate, length-append, length-set, length-replicate, length-drop}
+use lib.Dec.{T, leb, ltb, lt→ltb, le→leb}
+use lib.ListN.{length, getD, take, drop, set, replicate, length-append, length-set, length-replicate, length-drop}
 use lib.Seq.{length-take-le, take-at, take-all, set-out}
 use lib.IntN.{ℤ, pos}
 use Rattle.distr.specs.Words.{Read, got, short, mapRead, bindRead, choose, chooseEach}
-use Rattle.distr.specs.Skipped.{passedOver, passedEach}
+use Rattle.distr.specs.Skipped.{passedEach}
 use Rattle.distr.specs.Blocks.{block, blocksOf}
 use Rattle.distr.specs.Draw.{settled}
-use Rattle.distr.proofs.Reading.{map-got, map-read-twice, map-read-same}
+use Rattle.distr.proofs.Reading.{map-got, map-read-twice, map-read-same, choose-accept, choose-skip, choose-end}
 use Rattle.distr.proofs.Skipping.{each-counts}
 use Rattle.distr.proofs.Drawing.{settled-got, settled-short}
 use Rattle.distr.proofs.Writing.{map-append, map-replicate, map-set}
-use Rattle.words.specs.declared.Taken.the-variants.{Got, Short}
-use Rattle.words.specs.Reading.{taken}
-use Rattle.words.proofs.Places.{place-of}
-use Rattle.words.proofs.Taking.{took-choice, taken-short}
+use Rattle.words.proofs.Runs.{run-accepted, run-skipped}
 
 -- a position by its test: itself inside of n places, else the first
 pub position-room : (n i : ℕ) → 0 < n → i * boolByte (ltb i n) < n
@@ -101,6 +98,15 @@ onwards write size k xs m ws = mapRead (λ ss. xs ++ write (blocksOf size ss)) (
 abbrev pub wanted : ℕ → ℕ → ℕ → List ℕ → Read (List ℤ)
 wanted size k n ws = mapRead (blocksOf size) (chooseEach (replicate (n / size) k) ws)
 
+-- words of which the next choice is the same are read alike
+choose-same : (k m : ℕ) (ws rest : List ℕ) → choose k ws ≡ choose k rest → chooseEach (replicate (suc m) k) ws ≡ chooseEach (replicate (suc m) k) rest
+unfolding chooseEach
+choose-same k m ws rest e = rw e
+
+onwards-same : {A : Type 0} (write : List ℤ → List A) (size k : ℕ) (xs : List A) (m : ℕ) (ws rest : List ℕ) → choose k ws ≡ choose k rest
+    → onwards write size k xs (suc m) ws ≡ onwards write size k xs (suc m) rest
+onwards-same write size k xs m ws rest e = ap (mapRead (λ (ss : List ℕ). xs ++ write (blocksOf size ss))) (choose-same k m ws rest e)
+
 module _ {A : Type 0} (write : List ℤ → List A) {z o : A} (holds : Holds write z o) (size k : ℕ) (xs : List A) (ws : List ℕ) where
   -- none is left to fill; a word is missing; a choice fills one
   onwards-end : onwards write size k xs 0 ws ≡ got xs ws
@@ -121,26 +127,26 @@ module _ {A : Type 0} (write : List ℤ → List A) {z o : A} (holds : Holds wri
       ∙ map-read-same _ _ (λ ss. ap (λ (l : List A). xs ++ l) (holds .joined (block size s) (blocksOf size ss))
       ∙ sym (append-assoc xs (write (block size s)) (write (blocksOf size ss)))) others
 
-module _ {A : Type 0} (write : List ℤ → List A) (words : List ℕ) (size k n place : ℕ) where
+module _ {A : Type 0} (write : List ℤ → List A) (ws : List ℕ) (size k n : ℕ) where
   -- the blocks before `start` are filled, `left` blocks follow, and the words are read up to `at`
   pub record Turn (start at : ℕ) (out : List A) : Type 0 where
     pub left : ℕ
     pub whole : start + left * size ≡ n
     pub kept : length out ≡ n
-    pub within : at ≤ length words
-    pub reading : onwards write size k (take start out) left (drop at words) ≡ mapRead write (wanted size k n (drop place words))
+    pub within : at ≤ length ws
+    pub reading : onwards write size k (take start out) left (drop at ws) ≡ mapRead write (wanted size k n ws)
 
-  pub turn-start : (out : List A) → n % size ≡ 0 → length out ≡ n → place ≤ length words → Turn 0 place out
-  turn-start out d l h = record {
+  pub turn-start : (out : List A) → n % size ≡ 0 → length out ≡ n → Turn 0 0 out
+  turn-start out d l = record {
     left = n / size;
     whole = omega (arith, div-add-mod' n size);
     kept = l;
-    within = h;
-    reading = sym (map-read-twice write (blocksOf size) (chooseEach (replicate (n / size) k) (drop place words)));
+    within = omega arith;
+    reading = sym (map-read-twice write (blocksOf size) (chooseEach (replicate (n / size) k) ws));
   }
 
-module _ {A : Type 0} {write : List ℤ → List A} {z o : A} (holds : Holds write z o) {words : List ℕ} {size k n place start at : ℕ} {out : List A}
-    (t : Turn write words size k n place start at out) where
+module _ {A : Type 0} {write : List ℤ → List A} {z o : A} (holds : Holds write z o) {ws : List ℕ} {size k n start at : ℕ} {out : List A}
+    (t : Turn write ws size k n start at out) where
   -- before the end a block is left, and after it one less
   some-left : start < n → (m : ℕ) × (t .left ≡ suc m) × (start + size + m * size ≡ n)
   some-left h = go (t .left) (t .whole)
@@ -161,62 +167,86 @@ module _ {A : Type 0} {write : List ℤ → List A} {z o : A} (holds : Holds wri
   pub turn-room : start < n → start + size ≤ length out
   turn-room h = omega (arith, some-left h .2, t .kept)
 
-  -- and is not empty
-  pub turn-some : 0 < size → start < n → 0 < length (midOf start (start + size - start) out)
-  turn-some p h = omega (arith, mid-len start (start + size) out (turn-room h))
+  -- so much of it
+  pub turn-size : start < n → length (midOf start (start + size - start) out) ≡ size
+  turn-size h = omega (arith, mid-len start (start + size) out (turn-room h))
 
   module _ (h : start < n) where
-    -- one choice, and its block filled in the output's part
-    pub turn-more : {s next skipped : ℕ} {ys : List A}
-        → Got s next skipped ≡ taken (length words) (passedOver k (drop at words)) (choose k (drop at words))
-        → ys ≡ set (replicate (length (midOf start (start + size - start) out)) z) s o → length (putMid start (start + size - start) out ys) ≡ length out
-        → Turn write words size k n place (start + size) next (putMid start (start + size - start) out ys)
-    turn-more {s} {next} {ys = ys} e f l =
-        let m = some-left h in
-        let chosen = took-choice words at s next k e in
-        let lent : length (midOf start (start + size - start) out) ≡ size = omega (arith, mid-len start (start + size) out (turn-room h)) in
-        let fill : ys ≡ set (replicate size z) s o = f ∙ ap (λ (j : ℕ). set (replicate j z) s o) lent in
-        let size-fill : length ys ≡ size = ap length fill ∙ simp (length-set, length-replicate) in
-        record {
-          left = m .0;
-          whole = m .2;
-          kept = l ∙ t .kept;
-          within = chosen .within;
-          reading = ap (λ (xs : List A). onwards write size k xs (m .0) (drop next words))
-              (front start size out ys (omega (arith, turn-room h)) size-fill
-              ∙ ap (λ (l : List A). take start out ++ l) (fill ∙ sym (holds .one-block size s)))
-              ∙ sym (onwards-next write holds size k (take start out) (drop at words) (m .0) s (drop next words) (chosen .reads))
-              ∙ ap (λ (j : ℕ). onwards write size k (take start out) j (drop at words)) (sym (m .1)) ∙ t .reading;
-        }
+    abbrev rest : List ℕ → Read (List A)
+    rest left = onwards write size k (take start out) (suc (some-left h .0)) left
+
+    -- what is read where a block is left
+    reads : rest (drop at ws) ≡ mapRead write (wanted size k n ws)
+    reads = ap (λ (j : ℕ). onwards write size k (take start out) j (drop at ws)) (sym (some-left h .1)) ∙ t .reading
+
+    module _ (p : 0 < k) (q : k ≤ 2 ^ 32) (there : at < length ws) where
+      abbrev word : ℕ
+      word = getD ws at 0
+
+      -- a word whose run ends at 2^32 or below gives the block, which is filled in the output's part
+      pub turn-more : {ys : List A} → word - word % k + k ≤ 2 ^ 32
+          → ys ≡ set (replicate (length (midOf start (start + size - start) out)) z) (word % k) o → length (putMid start (start + size - start) out ys) ≡ length out
+          → Turn write ws size k n (start + size) (suc at) (putMid start (start + size - start) out ys)
+      turn-more {ys} e f l =
+          let m = some-left h in
+          let s : ℕ = word % k in
+          let below : T (ltb word (k * (2 ^ 32 / k))) = lt→ltb word _ (run-accepted (2 ^ 32) k word p q (omega (arith, mod-le word k))) in
+          let fill : ys ≡ set (replicate size z) s o = f ∙ ap (λ (j : ℕ). set (replicate j z) s o) (turn-size h) in
+          let size-fill : length ys ≡ size = ap length fill ∙ simp (length-set, length-replicate) in
+          record {
+            left = m .0;
+            whole = m .2;
+            kept = l ∙ t .kept;
+            within = there;
+            reading = ap (λ (xs : List A). onwards write size k xs (m .0) (drop (suc at) ws))
+                (front start size out ys (omega (arith, turn-room h)) size-fill
+                ∙ ap (λ (l : List A). take start out ++ l) (fill ∙ sym (holds .one-block size s)))
+                ∙ sym (onwards-next write holds size k (take start out) (drop at ws) (m .0) s (drop (suc at) ws) (choose-accept k at ws there below))
+                ∙ reads;
+          }
+
+      -- another is passed over
+      pub turn-passed : 2 ^ 32 < word - word % k + k → Turn write ws size k n start (suc at) out
+      turn-passed e =
+          let above : T (leb (k * (2 ^ 32 / k)) word) = le→leb _ word (run-skipped (2 ^ 32) k word p q (omega (arith, mod-le word k))) in
+          record {
+            left = t .left;
+            whole = t .whole;
+            kept = t .kept;
+            within = there;
+            reading = ap (λ (j : ℕ). onwards write size k (take start out) j (drop (suc at) ws)) (some-left h .1)
+                ∙ onwards-same write size k (take start out) (some-left h .0) (drop (suc at) ws) (drop at ws) (sym (choose-skip k at ws there above)) ∙ reads;
+          }
 
     -- a word is missing, and the output was cleared
-    pub turn-short : {out′ : List A} → Short ≡ taken (length words) (passedOver k (drop at words)) (choose k (drop at words))
-        → out′ ≡ replicate (length out) z
+    pub turn-short : (words : List ℕ) (place : ℕ) {out′ : List A} → length ws ≤ at → ws ≡ drop place words → out′ ≡ replicate (length out) z
         → record { number = 23; place = place; output = out′ } ≡ settled write (length words) place n (wanted size k n (drop place words))
-    turn-short {out′} e c =
-        let m = some-left h in
+    turn-short words place {out′} e same c =
         settled-short write (length words) place n out′ (wanted size k n (drop place words))
-        (sym (t .reading) ∙ ap (λ (j : ℕ). onwards write size k (take start out) j (drop at words)) (m .1)
-        ∙ onwards-short write holds size k (take start out) (drop at words) (m .0) (taken-short (length words) _ _ e))
+        (ap (λ (l : List ℕ). mapRead write (wanted size k n l)) (sym same) ∙ sym reads
+        ∙ onwards-short write holds size k (take start out) (drop at ws) (some-left h .0) (choose-end k at ws e))
         (c ∙ ap (λ (j : ℕ). replicate j z) (t .kept) ∙ sym (holds .zeros n))
 
   -- every block is filled
   module _ (p : 0 < size) (h : n ≤ start) where
-    filled : mapRead write (wanted size k n (drop place words)) ≡ got out (drop at words)
+    filled : mapRead write (wanted size k n ws) ≡ got out (drop at ws)
     filled =
-        sym (t .reading) ∙ ap (λ (j : ℕ). onwards write size k (take start out) j (drop at words)) (none-left p h)
-        ∙ onwards-end write holds size k (take start out) (drop at words)
-        ∙ ap (λ (l : List A). got l (drop at words)) (take-all start out (omega (arith, t .kept)))
+        sym (t .reading) ∙ ap (λ (j : ℕ). onwards write size k (take start out) j (drop at ws)) (none-left p h)
+        ∙ onwards-end write holds size k (take start out) (drop at ws)
+        ∙ ap (λ (l : List A). got l (drop at ws)) (take-all start out (omega (arith, t .kept)))
 
-    pub turn-end : record { number = 0; place = at; output = out } ≡ settled write (length words) place n (wanted size k n (drop place words))
-    turn-end =
-        settled-got write (length words) place n out (wanted size k n (drop place words)) (drop at words) (place-of words at (t .within)) filled
+    pub turn-end : (words : List ℕ) (place : ℕ) → place ≤ length words → ws ≡ drop place words
+        → record { number = 0; place = place + at; output = out } ≡ settled write (length words) place n (wanted size k n (drop place words))
+    turn-end words place w same =
+        settled-got write (length words) place n out (wanted size k n (drop place words)) (drop at ws)
+        (omega (arith, t .within, length-drop at ws, ap length same, length-drop place words))
+        (ap (λ (l : List ℕ). mapRead write (wanted size k n l)) (sym same) ∙ filled)
 
-    -- a word was taken for each block, and those that the choices passed over
-    pub turn-counts : place ≤ length words → at ≡ place + n / size + passedEach (replicate (n / size) k) (drop place words)
-    turn-counts w =
+    -- a word was taken for each block, and those that were passed over
+    pub turn-counts : at ≡ n / size + passedEach (replicate (n / size) k) ws
+    turn-counts =
         let ks : List ℕ = replicate (n / size) k in
-        let blocks = map-got write (wanted size k n (drop place words)) out (drop at words) filled in
-        let choices = map-got (blocksOf size) (chooseEach ks (drop place words)) (blocks .0) (drop at words) (blocks .1) in
-        let all = each-counts ks (drop place words) (choices .0) (drop at words) (choices .1) in
-        omega (arith, length-replicate (n / size) k, length-drop place words, length-drop at words)
+        let blocks = map-got write (wanted size k n ws) out (drop at ws) filled in
+        let choices = map-got (blocksOf size) (chooseEach ks ws) (blocks .0) (drop at ws) (blocks .1) in
+        let all = each-counts ks ws (choices .0) (drop at ws) (choices .1) in
+        omega (arith, t .within, length-replicate (n / size) k, length-drop at ws)

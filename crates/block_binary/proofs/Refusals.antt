@@ -2,15 +2,14 @@
 use mathlib.Core.Path.{_≡_, sym, ap, _∙_}
 use mathlib.Core.Bool.{not}
 use mathlib.Core.List.{List}
-use Prim.Native.Nat.{ℕ, zero, suc, _*_, _/_, _%_, _^_, _<_, _≤_}
-use native.Mathlib.Nat.{mod-zero, mod-eq-of-lt, div-add-mod'}
+use Prim.Native.Nat.{ℕ, zero, suc, _*_, _/_, _%_, _<_, _≤_}
+use native.Mathlib.Nat.{mod-zero, div-add-mod'}
 use native.Mathlib.Omega.{arith}
 use borrow.Author.Tests.{eqb-true, eqb-false, not-false}
 use lib.Dec.{eqb}
 use lib.ListN.{length, drop, replicate}
 use lib.IntN.{ℤ}
 use Rattle.distr.specs.declared.secret_key_distr.BlockOccupancy.{BlockOccupancy}
-use Rattle.distr.specs.declared.secret_key_distr.BlockOccupancy.the-variants.{AtMostOne, ExactlyOne}
 use Rattle.distr.specs.declared.answer.Answer.{Answer}
 use Rattle.distr.specs.Answers.{sums, reported}
 use Rattle.distr.specs.Skipped.{skippedWords, passedEach}
@@ -47,11 +46,6 @@ accepted count place n size number z =
     let size-good = divides size n (eqb-false n 0 (d .0)) whole in
     record { within = good .0; some = size-good .0; whole = whole; small = omega (arith, size-good .1, good .1) }
 
--- the choices for a block that an output has room for
-choices-fit : (size : ℕ) (occupancy : BlockOccupancy) → size ≤ outputLimit → categories size occupancy % 2 ^ 64 ≡ categories size occupancy
-choices-fit size ExactlyOne h = mod-eq-of-lt (omega arith)
-choices-fit size AtMostOne h = mod-eq-of-lt (omega arith)
-
 -- k is the first number that refuses the draw, by its own number j
 module _ {A : Type 0} (write : List ℤ → List A) (words : List ℕ) (place size : ℕ) (occupancy : BlockOccupancy) (out : List A) {j k : ℕ}
     (own : j ≡ badBlocks size (length out)) (told : k ≡ drawNumber (length words) place (length out) j) where
@@ -67,17 +61,13 @@ module _ {A : Type 0} (write : List ℤ → List A) (words : List ℕ) (place si
   pub ready : k ≡ 0 → Accepted (length words) place (length out) size
   ready = accepted (length words) place (length out) size number
 
-  module _ (z : k ≡ 0) {choices : ℕ} (counted : choices ≡ categories size occupancy % 2 ^ 64) where
-    same : choices ≡ categories size occupancy
-    same = counted ∙ choices-fit size occupancy (ready z .small)
-
-    -- what the blocks give is the draw, and what their choices pass over is what it skips
-    pub drawn : {o : Outcome A} → o ≡ settled write (length words) place (length out) (wanted size choices (length out) (drop place words))
-        → o ≡ promised
-    drawn s =
-        s ∙ ap (λ (i : ℕ). settled write (length words) place (length out) (wanted size i (length out) (drop place words))) same
-        ∙ rule-passed write (badBlocks size (length out)) words place out number (blockBinary size occupancy (length out)) z
-
-    pub passed : (r : Answer) → sums r ≡ reported (r .number) (skippedWords (passedEach (replicate (length out / size) choices) (drop place words)))
-        → sums r ≡ reported (r .number) (blockBinary size occupancy (length out) .skips (drop place words))
-    passed r s = rw same at s
+  -- what the blocks give is the draw, and what their choices pass over is what it skips
+  pub drawn : k ≡ 0 → {choices : ℕ} → choices ≡ categories size occupancy → (r : Answer) {o : Outcome A}
+      → (o ≡ settled write (length words) place (length out) (wanted size choices (length out) (drop place words)))
+      × (sums r ≡ reported (r .number) (skippedWords (passedEach (replicate (length out / size) choices) (drop place words))))
+      → (o ≡ promised) × (sums r ≡ reported (r .number) (blockBinary size occupancy (length out) .skips (drop place words)))
+  drawn z same r s = (
+    s .0 ∙ ap (λ (i : ℕ). settled write (length words) place (length out) (wanted size i (length out) (drop place words))) same
+        ∙ rule-passed write (badBlocks size (length out)) words place out number (blockBinary size occupancy (length out)) z,
+    rw same at (s .1),
+  )

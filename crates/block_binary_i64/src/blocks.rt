@@ -7,8 +7,8 @@ use distr::answer::Answer;
 use distr::answer::refused;
 use distr::answer::succeeded_after;
 use distr::refusal::OUT_OF_WORDS;
-use words::Taken;
 ghost use mathlib.Core.Path.{_≡_};
+ghost use mathlib.Core.Bool.{true};
 ghost use Prim.Native.Nat.{_%_, _/_, _≤_, _<_};
 ghost use lib.ListN.{length, drop, set, replicate};
 ghost use Rattle.distr.specs.Words.{mapRead, chooseEach};
@@ -34,29 +34,36 @@ fn blank(block: &mut [Out], nothing: usize)
     }
 }
 
-// Fills one block, which is lent as a part of the output: zeros, and a one at the position, unless that is past the block.
-// Such a position writes a zero at the first place, so that nothing branches on what was drawn.
-fn fill_block(block: &mut [Out], position: usize, nothing: usize)
-    requires { ⌜ (0 < length (now block)) × (nothing ≡ 0) ⌝ }
+// Fills one block, which is lent as a part of the output: zeros, and a one at the position, unless that is past the block. Where every choice is a
+// place of the block (`full`) nothing is tested. Else a position past it writes a zero at the first place, so that nothing branches on what was drawn.
+fn fill_block(block: &mut [Out], position: usize, full: bool, nothing: usize)
+    requires { ⌜ (0 < length (now block)) × (nothing ≡ 0) × (full ≡ true → position < length (now block)) ⌝ }
     ensures { λ r. ⌜ now (block .exit) ≡ set (replicate (length (now (block .entry))) zero) position one ⌝ }
 {
     let size = block.len();
     blank(block, nothing);
-    let inside = (position < size) as usize;
-    block[position * inside] = inside as Out;
+    if full {
+        block[position] = 1;
+    } else {
+        let inside = (position < size) as usize;
+        block[position * inside] = inside as Out;
+    }
 }
 
-// Fills the output block by block, each by one choice among `choices`. Where a word is missing the output is cleared.
-// Of the words taken one was used for each block; the choices passed over the others.
+// Fills the output block by block, each by one choice among `choices`. A turn looks at one word: it gives the next block, or is passed over, where its
+// run of so many, from word - left on, does not end at 2^32 or below. Where a word is missing the output is cleared.
+// Of the words taken one was used for each block; the others were passed over.
 pub(crate) fn draw_blocks(
     output: &mut [Out],
     encoding: Encoding,
     block_size: usize,
-    choices: u64,
+    full: bool,
+    choices: u32,
     words: &[u32],
     place: usize,
 ) -> Answer
     requires { ⌜ (0 < «block_size») × (length (now output) % «block_size» ≡ 0) × (place ≤ length (now words)) × («block_size» ≤ 65536) ⌝ }
+    requires { ⌜ (0 < choices) × (full ≡ true → choices ≤ «block_size») ⌝ }
     ensures { λ r. ⌜ (let n = length (now (output .entry)) in
         outcome r (now (output .exit))
         ≡ settled (held encoding) (length (now (words .entry))) place n
@@ -65,26 +72,22 @@ pub(crate) fn draw_blocks(
 {
     let n = output.len();
     let nothing = block_size / 65537;
-    let used = place + n / block_size;
+    let lent = &words[place..];
     let mut start = 0;
-    let mut at = place;
+    let mut at = 0;
     while start < n {
-        match words::uniform_below(words, at, choices) {
-            Taken::Got {
-                value,
-                place: next,
-                skipped: _,
-            } => {
-                let end = start + block_size;
-                fill_block(&mut output[start..end], value as usize, nothing);
-                start = end;
-                at = next;
-            }
-            Taken::Short => {
-                clear(output);
-                return refused(OUT_OF_WORDS, place);
-            }
+        if lent.len() <= at {
+            clear(output);
+            return refused(OUT_OF_WORDS, place);
+        }
+        let word = lent[at];
+        let left = word % choices;
+        at += 1;
+        if (word - left) as u64 + choices as u64 <= 0x1_0000_0000 {
+            let end = start + block_size;
+            fill_block(&mut output[start..end], left as usize, full, nothing);
+            start = end;
         }
     }
-    succeeded_after(at, (at - used) as u64, 0)
+    succeeded_after(place + at, (at - n / block_size) as u64, 0)
 }

@@ -2,7 +2,7 @@
 // allows it.
 use crate::Encoding;
 use crate::Out;
-use crate::blocks;
+use crate::blocks::draw_blocks;
 use distr::answer::Answer;
 use distr::answer::refused;
 use distr::secret_key_distr::BlockOccupancy;
@@ -14,7 +14,7 @@ ghost use Rattle.distr.specs.Draw.{outcome, ruleDraw};
 ghost use Rattle.distr.specs.Answers.{sums, reported};
 ghost use Rattle.output_u64.specs.Out.{held};
 
-// Block-binary values from the words at `place` on, one choice for each block.
+// Block-binary values from the words at `place` on, one choice for each block: among its places, and with `AtMostOne` one more, which leaves it zero.
 pub fn sample_block_binary_values_to(
     output: &mut [Out],
     encoding: Encoding,
@@ -33,6 +33,13 @@ pub fn sample_block_binary_values_to(
     if number != 0 {
         return refused(number, place);
     }
-    let choices = block_binary::category_count(block_size, occupancy);
-    blocks::draw_blocks(output, encoding, block_size, choices, words, place)
+    let size = block_size as u32;
+    match occupancy {
+        BlockOccupancy::ExactlyOne => {
+            draw_blocks(output, encoding, block_size, true, size, words, place)
+        }
+        BlockOccupancy::AtMostOne => {
+            draw_blocks(output, encoding, block_size, false, size + 1, words, place)
+        }
+    }
 }

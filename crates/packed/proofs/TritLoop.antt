@@ -359,7 +359,7 @@ module _ {A : Type 0} (z : A) (pairs : List A) (words : List ℕ) (out₀ : List
       s
 
   -- no byte is left: the words alone
-  pub trit-paused : {out : List A} {at next : ℕ} → TritLoop out at next 0 0 → tritsFrom z pairs out at (drop next words) ≡ Whole
+  trit-paused : {out : List A} {at next : ℕ} → TritLoop out at next 0 0 → tritsFrom z pairs out at (drop next words) ≡ Whole
   unfolding digits
   trit-paused {out} {at} {next} s =
       ap (λ (n : ℕ). mapRead (λ ds. take at out ++ digitValues z pairs (take (n - at) (split 3 5 ds))) (bytes (drop next words) (bytesWanted (n - at)))) (s .sized)
@@ -404,12 +404,19 @@ trits-all z pairs out ws =
 
 -- ---- the bytes looked at, where whole words were stored from the start and the others read from there
 module _ (words : List ℕ) (place : ℕ) where
-  pub looked-paused : {A : Type 0} (z : A) (pairs out₀ : List A) {out : List A} {at next : ℕ} → TritLoop z pairs words out₀ 0 place out at next 0 0
+  looked-paused : {A : Type 0} (z : A) (pairs out₀ : List A) {out : List A} {at next : ℕ} → TritLoop z pairs words out₀ 0 place out at next 0 0
       → bytesLooked (drop place words) (length out₀) + 4 * place ≡ bytesLooked (drop next words) (length out - at) + 4 * next
   unfolding digits
   looked-paused z pairs out₀ {at = at} {next = next} s =
       let whole = rw (sub-zero (length out₀)) at (s .looked) in
       rw (s .sized) (omega (arith, whole, looked-words (drop next words) (bytesWanted (length out₀ - at))))
+
+  -- all that is said where the storing of whole words ends
+  pub words-stored : {A : Type 0} (z : A) (pairs out₀ : List A) {out : List A} {at next : ℕ} → TritLoop z pairs words out₀ 0 place out at next 0 0
+      → ((at ≤ length out) × (next ≤ length words) × (tritsFrom z pairs out at (drop next words) ≡ tritsFrom z pairs out₀ 0 (drop place words)))
+      × (bytesLooked (drop place words) (length out₀) + 4 * place ≡ bytesLooked (drop next words) (length out - at) + 4 * next)
+  words-stored z pairs out₀ s =
+      ((omega (arith, s .within, s .sized), s .found, trit-paused z pairs words out₀ 0 place s), looked-paused z pairs out₀ s)
 
   pub looked-short : (k at : ℕ) → Looked (record { found = false; place = at; left = 0 }) words place k
   looked-short k at = record { few = omega arith; all = λ f. absurd (true≢false (sym f)) }

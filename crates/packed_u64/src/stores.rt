@@ -148,7 +148,8 @@ pub(crate) fn fill_words(
     }
 }
 
-// Whole words from `place` on, while there are any and the output has room for all their bytes.
+// Whole words from `place` on, while there are any and the output has room for all their bytes. The last place where a word fits is worked
+// out beforehand, so that a turn tests one index.
 fn store_words(output: &mut [Out], pairs: &[Out], words: &[u32], place: usize) -> WordsStored
     requires { ⌜ (place ≤ length (now words)) × Paired 3 zero (now pairs) ⌝ }
     ensures { λ r. ⌜ (r .at ≤ length (now (output .exit))) × (r .place ≤ length (now (words .entry)))
@@ -161,7 +162,11 @@ fn store_words(output: &mut [Out], pairs: &[Out], words: &[u32], place: usize) -
     let count = words.len();
     let mut at = 0;
     let mut next = place;
-    while at + 20 <= n {
+    if n < 20 {
+        return WordsStored { at, place: next };
+    }
+    let last = n - 20;
+    while at <= last {
         if next == count {
             return WordsStored { at, place: next };
         }

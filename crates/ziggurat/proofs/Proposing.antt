@@ -8,7 +8,7 @@ use native.Mathlib.Numerals.{add-one, add-two}
 use native.Mathlib.Omega.{arith}
 use lib.Bits.{bitAnd, and-mask}
 use lib.Dec.{T, leb, ltb, eqb, lt→ltb, lit<}
-use borrow.Author.Tests.{eqb-true, leb-true, leb-false}
+use borrow.Author.Tests.{eqb-true, leb-true, leb-false, ltb-true, ltb-false}
 use lib.ListN.{length, getD, drop, length-drop, drop-of-length-le}
 use mir.Syntax.{w32, w64}
 use mir.Val.{Fits}
@@ -16,7 +16,7 @@ use mir.Facts.{fits-widen}
 use Rattle.distr.specs.Words.{Read, got, short, mapRead, bindRead, word, choose, coin}
 use Rattle.distr.specs.Skipped.{passedOver, passedAfter}
 use Rattle.distr.specs.Layered.{passedTry}
-use Rattle.distr.proofs.Reading.{choose-accept}
+use Rattle.distr.proofs.Reading.{choose-accept, short-not-got, chose}
 use Rattle.distr.proofs.Skipping.{choice-counts}
 use Rattle.words.specs.declared.Taken.{Taken}
 use Rattle.words.specs.declared.Taken.the-variants.{Got as There, Short as Missing}
@@ -66,10 +66,33 @@ layer-fits endpoints w sizes room = record { fits = omega (arith, layer-there en
 pub word-fits : (ws : List ℕ) (i : ℕ) → ((j : ℕ) → Fits w32 (getD ws j 0)) → Fits w64 (getD ws i 0)
 word-fits ws i each = fits-widen tt (each i)
 
--- and so has a magnitude up to an endpoint that has them
-pub magnitude-fits : (ws : List ℕ) (i end m after skipped : ℕ) (r : Taken) → r ≡ There m after skipped
-    → r ≡ taken (length ws) (passedOver (end + 1) (drop i ws)) (choose (end + 1) (drop i ws)) → end ≤ 0xffff_ffff → Fits w32 m
-magnitude-fits ws i end m after skipped r e told small = record { fits = omega (arith, chosen-below ws i m after (end + 1) (sym e ∙ told)) }
+-- a choice among more than 2^32 accepts no word, so what is chosen has 32 bits too
+choose-far : (k : ℕ) (ws : List ℕ) → 2 ^ 32 < k → choose k ws ≡ short
+choose-far k ws h = choose-none k ws (rw (div-eq-of-lt h) (mul-zero k))
+
+among-few : (k m : ℕ) (ws rest : List ℕ) → choose k ws ≡ got m rest → k ≤ 2 ^ 32
+among-few k m ws rest e = go (leb k (2 ^ 32)) refl
+  where
+    go : (b : Bool) → leb k (2 ^ 32) ≡ b → k ≤ 2 ^ 32
+    go true t = leb-true k (2 ^ 32) t
+    go false t = absurd (short-not-got (sym (choose-far k ws (leb-false k (2 ^ 32) t)) ∙ e))
+
+pub magnitude-fits : (ws : List ℕ) (i k m after skipped : ℕ) (r : Taken) → r ≡ There m after skipped
+    → r ≡ taken (length ws) (passedOver k (drop i ws)) (choose k (drop i ws)) → Fits w32 m
+magnitude-fits ws i k m after skipped r e told =
+    let few = among-few k m (drop i ws) (drop after ws) (took-choice ws i m after k (sym e ∙ told) .reads) in
+    record { fits = omega (arith, chosen-below ws i m after k (sym e ∙ told)) }
+
+-- the choice up to an endpoint where the number of choices wraps: it wraps to 0 from 2^64, and among neither is a word accepted
+wrapped : (end k : ℕ) (ws : List ℕ) → Fits w64 end → k ≡ (end + 1) % 2 ^ 64 → choose k ws ≡ choose (suc end) ws
+wrapped end k ws fits wraps = go (ltb (suc end) (2 ^ 64)) refl
+  where
+    go : (b : Bool) → ltb (suc end) (2 ^ 64) ≡ b → choose k ws ≡ choose (suc end) ws
+    go true t = ap (λ (n : ℕ). choose n ws) (omega (arith, ltb-true (suc end) (2 ^ 64) t))
+    go false t =
+        let far : 2 ^ 64 ≤ suc end = ltb-false (suc end) (2 ^ 64) t in
+        let none : k ≡ 0 = omega arith in
+        choose-none k ws (rw none) ∙ sym (choose-far (suc end) ws (omega arith))
 
 module _ (endpoints ws : List ℕ) (place : ℕ) where
   -- with fewer than two words left a layer or a sign lacks one
@@ -132,34 +155,32 @@ module _ (endpoints ws : List ℕ) (place : ℕ) where
     two : 2 ≤ length ws - place
     two = omega arith
 
-    -- no word is accepted where the endpoint is 2^32 or more
-    pub far-endpoint : 2 ^ 32 ≤ end → Proposes endpoints ws place Short
-    far-endpoint h =
-        lacking sizes two each
-        (choose-none (suc end) (drop (place + 2) ws) (rw (div-eq-of-lt {n = 2 ^ 32} {m = suc end} (omega arith)) (mul-zero (suc end))))
+    -- the magnitude, as it was taken by a choice among k, which is one more than the endpoint, and wraps
+    module _ (k : ℕ) (fits : (i : ℕ) → Fits w64 (getD endpoints i 0)) (wraps : k ≡ (end + 1) % 2 ^ 64) (r : Taken)
+        (told : r ≡ taken (length ws) (passedOver k (drop (place + 2) ws)) (choose k (drop (place + 2) ws))) where
+      same : choose k (drop (place + 2) ws) ≡ choose (suc end) (drop (place + 2) ws)
+      same = wrapped end k (drop (place + 2) ws) (fits (chosen + 1)) wraps
 
-    -- the magnitude, as it was taken
-    module _ (r : Taken) (told : r ≡ taken (length ws) (passedOver (end + 1) (drop (place + 2) ws)) (choose (end + 1) (drop (place + 2) ws))) where
       pub no-magnitude : r ≡ Missing → Proposes endpoints ws place Short
-      no-magnitude e =
-          lacking sizes two each (rw (add-one end) at (taken-short (length ws) (passedOver (end + 1) (drop (place + 2) ws)) _ (sym e ∙ told)))
+      no-magnitude e = lacking sizes two each (sym same ∙ taken-short (length ws) (passedOver k (drop (place + 2) ws)) _ (sym e ∙ told))
 
-      module _ (m after skipped : ℕ) (e : r ≡ There m after skipped) (small : end ≤ 0xffff_ffff) where
+      module _ (m after skipped : ℕ) (e : r ≡ There m after skipped) where
         pub all-three :
             Proposes endpoints ws place (Got (record { layer = chosen + 1; positive = leb (2 ^ 31) (getD ws (place + 1) 0); magnitude = m; place = after }))
         unfolding propose bindRead mapRead
         all-three =
-            let took = took-choice ws (place + 2) m after (end + 1) (sym e ∙ told) in
+            let took = took-choice ws (place + 2) m after k (sym e ∙ told) in
+            let read : choose (suc end) (drop (place + 2) ws) ≡ got m (drop after ws) = sym same ∙ took .reads in
+            let few = among-few (suc end) m (drop (place + 2) ws) (drop after ws) read in
             let on : OnLayer endpoints (chosen + 1) m = record {
               some = omega arith;
               there = layer-there endpoints (getD ws place 0) sizes;
-              below = omega (arith, chosen-below ws (place + 2) m after (end + 1) (sym e ∙ told));
+              below = omega (arith, chose (suc end) (drop (place + 2) ws) m (drop after ws) read .below);
               small = omega arith;
             } in
-            let chose : choose (suc end) (drop (place + 2) ws) ≡ got m (drop after ws) = rw (add-one end) at (took .reads) in
-            let count = choice-counts (suc end) (drop (place + 2) ws) m (drop after ws) chose in
+            let count = choice-counts (suc end) (drop (place + 2) ws) m (drop after ws) read in
             record {
-              reads = rw (layer sizes two each, tossed sizes two each, chose);
+              reads = rw (layer sizes two each, tossed sizes two each, read);
               sound =
                   (on, omega (arith, count, passes sizes two each, length-drop (place + 2) ws, length-drop after ws, took .within), took .within);
             }

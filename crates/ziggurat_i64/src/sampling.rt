@@ -18,7 +18,7 @@ ghost use Rattle.ziggurat.specs.Sampling.{Proposes, OnLayer, OnTables, isInside
 
 // A layer, a coin for the sign, and a magnitude up to the layer's endpoint. The number of layers is a power of two, so the choice of the layer
 // masks a word and skips none. The coin is compared and not branched on. Each of the three reads a word: with fewer than
-// three left one is lacking.
+// three left one is lacking. An endpoint of 2^32 or more, among which no choice can be made, is left to the choice, which then lacks a word.
 fn propose(endpoints: &[u64], words: &[u32], place: usize) -> Proposal
     requires { ⌜ T (layerSizes (now endpoints)) ⌝ }
     requires { ⌜ place ≤ length (now words) ⌝ }
@@ -30,14 +30,11 @@ fn propose(endpoints: &[u64], words: &[u32], place: usize) -> Proposal
     let layer = (words[place] as usize & (endpoints.len() - 2)) + 1;
     let positive = 0x8000_0000 <= words[place + 1];
     let end = endpoints[layer];
-    if 0xffff_ffff < end {
-        return Proposal::Short;
-    }
     let Taken::Got {
         value,
         place: next,
         skipped: _,
-    } = words::uniform_below(words, place + 2, end + 1)
+    } = words::uniform_below(words, place + 2, std::num::wrapping_add_u64(end, 1))
     else {
         return Proposal::Short;
     };
