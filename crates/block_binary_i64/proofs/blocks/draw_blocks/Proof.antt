@@ -53,8 +53,9 @@ room c = let test = turn (c .before) in turn-room signed (test .before .loop .in
 cast-fill-block : tie.Need-cast-fill-block Inv-loop μ-loop
 cast-fill-block c =
     let test = turn (c .before .before) in
-    let a = begin (test .before) .args in
-    omega (arith, mod-lt (getD (lentFrom (a .words .now) (a .place)) (test .before .loop .at) 0) (begin (test .before) .pre .1 .0), begin (test .before) .fits .choices)
+    let start = begin (test .before) in
+    let a = start .args in
+    omega (arith, mod-lt (getD (lentFrom (a .words .now) (a .place)) (test .before .loop .at) 0) (start .pre .1 .0), start .fits .choices)
 
 fill-block-requires : tie.Need-fill-block-requires Inv-loop μ-loop
 fill-block-requires c κs =
@@ -92,7 +93,8 @@ counted : (c : tie.After-loop Inv-loop μ-loop) → let a = begin (c .before) .a
     c .before .loop .at ≡ m + passedEach (replicate m (a .choices)) (drop (a .place) (a .words .now))
 counted c =
     let start = begin (c .before) in
-    rw (lent-all (start .args .words .now) (start .args .place)) at (turn-counts signed (c .before .loop .inv) (start .pre .0 .0) (c .loop-test .left))
+    rw (lent-all (start .args .words .now) (start .args .place)) at
+    (turn-counts signed (c .before .loop .inv) (start .pre .0 .0) (c .loop-test .left))
 
 returns-2 : tie.Need-returns-2 Inv-loop μ-loop
 returns-2 c =
@@ -107,8 +109,10 @@ returns-2 c =
 pub draw-blocks-spec : {M : Type 1} → statement M
 draw-blocks-spec =
     tie.close
-    (tie.spec Inv-loop μ-loop (λ c. search needs) (λ c. search needs) (λ c. search needs) (λ c. search needs) loop-holds (λ c κs. search needs) (λ c κs. search needs)
-    same-length returns (λ c. search needs) (λ c. search needs) (λ c. search needs) (λ c. search needs) (λ c. mod-le _ _) (λ c. omega (arith, c .shared-slice-known2 .given (turn c .before .loop .at))) (λ c. omega (arith, c .shared-slice-known2 .given (turn c .before .loop .at), begin (turn c .before) .fits .choices))
+    (tie.spec Inv-loop μ-loop (λ c. search needs) (λ c. search needs) (λ c. search needs) (λ c. search needs) loop-holds (λ c κs. search needs)
+    (λ c κs. search needs) same-length returns (λ c. search needs) (λ c. search needs) (λ c. search needs) (λ c. search needs) (λ c. mod-le _ _)
+    (λ c. omega (arith, c .shared-slice-known2 .given (turn c .before .loop .at)))
+    (λ c. omega (arith, c .shared-slice-known2 .given (turn c .before .loop .at), begin (turn c .before) .fits .choices))
     (λ c. omega (arith, room c)) (λ c. omega (arith, room c)) (λ c. omega (arith, room c)) (λ c. omega (arith, room c)) (λ c. room c) cast-fill-block
     fill-block-requires (λ c. omega arith) loop-again (λ c. omega arith) loop-again-2 add-succeeded-after (λ c. omega (arith, begin (c .before) .pre .0 .0))
     (λ c. omega (arith, counted c)) (λ c κs. search needs) (λ c. c .before .before .loop .inv .kept) returns-2)

@@ -34,7 +34,7 @@ good c =
 draw-blocks-requires : tie.Need-draw-blocks-requires
 draw-blocks-requires c κs =
     let g = good (c .before .before .before) in
-    ((g .some, g .whole, g .within, g .small), (g .some, λ f. le-refl _))
+    ((g .some, g .whole, g .within, g .small), (omega (arith, g .some), λ f. le-refl _))
 
 draw-blocks-requires-2 : tie.Need-draw-blocks-requires-2
 draw-blocks-requires-2 c κs =
@@ -48,8 +48,8 @@ returns-2 c =
     let told = one .before .before .before in
     let a = told .before .before .before .args in
     let same : a .block-size ≡ categories (a .block-size) (a .occupancy) = rw (one .enum-told .given .1) in
-    drawn (λ cs. cs) (a .words .now) _ (a .block-size) (a .occupancy) (a .output .now) (told .before .block-number .ensures) (told .draw-number .ensures)
-    (one .before .before .if1 .left) same (drew .draw-blocks .result) (drew .draw-blocks .ensures)
+    drawn (λ cs. cs) (a .words .now) _ (a .block-size) (a .occupancy) (a .output .now) (told .before .block-number .ensures)
+    (told .draw-number .ensures) (one .before .before .if1 .left) same (drew .draw-blocks .result) (drew .draw-blocks .ensures)
 
 returns-3 : tie.Need-returns-3
 returns-3 c =
@@ -58,11 +58,12 @@ returns-3 c =
     let told = one .before .before .before in
     let a = told .before .before .before .args in
     let same : a .block-size + 1 ≡ categories (a .block-size) (a .occupancy) = rw (one .enum-told2 .given .1) (omega arith) in
-    drawn (λ cs. cs) (a .words .now) _ (a .block-size) (a .occupancy) (a .output .now) (told .before .block-number .ensures) (told .draw-number .ensures)
-    (one .before .before .if1 .left) same (drew .draw-blocks2 .result) (drew .draw-blocks2 .ensures)
+    drawn (λ cs. cs) (a .words .now) _ (a .block-size) (a .occupancy) (a .output .now) (told .before .block-number .ensures)
+    (told .draw-number .ensures) (one .before .before .if1 .left) same (drew .draw-blocks2 .result) (drew .draw-blocks2 .ensures)
 
 pub sample-block-binary-values-to-spec : {M : Type 1} → statement M
 sample-block-binary-values-to-spec =
     tie.close
-    (tie.spec (λ c κs. search needs) (λ c κs. search needs) (λ c κs. search needs) returns (λ c. omega (arith, good c .small)) (λ c. search needs) draw-blocks-requires
-    (λ c. search needs) (λ c. omega (arith, good (c .before .before .before) .small)) draw-blocks-requires-2 (λ c. search needs) returns-2 (λ c. search needs) returns-3)
+    (tie.spec (λ c κs. search needs) (λ c κs. search needs) (λ c κs. search needs) returns (λ c. omega (arith, good c .small))
+    (λ c. search needs) draw-blocks-requires (λ c. search needs) (λ c. omega (arith, good (c .before .before .before) .small)) draw-blocks-requires-2
+    (λ c. search needs) returns-2 (λ c. search needs) returns-3)

@@ -60,8 +60,9 @@ room c = let test = turn (c .before) in turn-room (mapped (heldOne any)) (test .
 cast-fill-block : tie.Need-cast-fill-block Inv-loop μ-loop
 cast-fill-block c =
     let test = turn (c .before .before) in
-    let a = begin (test .before) .args in
-    omega (arith, mod-lt (getD (lentFrom (a .words .now) (a .place)) (test .before .loop .at) 0) (begin (test .before) .pre .1 .0), begin (test .before) .fits .choices)
+    let start = begin (test .before) in
+    let a = start .args in
+    omega (arith, mod-lt (getD (lentFrom (a .words .now) (a .place)) (test .before .loop .at) 0) (start .pre .1 .0), start .fits .choices)
 
 fill-block-requires : tie.Need-fill-block-requires Inv-loop μ-loop
 fill-block-requires c κs =
@@ -77,7 +78,8 @@ loop-again c encoding =
     let start = begin (test .before) in
     rw (add-one (test .before .loop .at))
     (turn-more (mapped (heldOne encoding)) (test .before .loop .inv encoding) (test .loop-test .taken) (start .pre .1 .0)
-    (omega (arith, start .fits .choices)) (if2 .before .before .if1 .left) (if2 .if2 .taken) (c .before .before .fill-block .ensures) (c .before .output2 .given .1))
+    (omega (arith, start .fits .choices)) (if2 .before .before .if1 .left) (if2 .if2 .taken)
+    (c .before .before .fill-block .ensures) (c .before .output2 .given .1))
 
 loop-again-2 : tie.Need-loop-again-2 Inv-loop μ-loop
 loop-again-2 c encoding =
@@ -99,7 +101,8 @@ counted : (c : tie.After-loop Inv-loop μ-loop) → let a = begin (c .before) .a
     c .before .loop .at ≡ m + passedEach (replicate m (a .choices)) (drop (a .place) (a .words .now))
 counted c =
     let start = begin (c .before) in
-    rw (lent-all (start .args .words .now) (start .args .place)) at (turn-counts (mapped (heldOne any)) (c .before .loop .inv any) (start .pre .0 .0) (c .loop-test .left))
+    rw (lent-all (start .args .words .now) (start .args .place)) at
+    (turn-counts (mapped (heldOne any)) (c .before .loop .inv any) (start .pre .0 .0) (c .loop-test .left))
 
 returns-2 : tie.Need-returns-2 Inv-loop μ-loop
 returns-2 c =
@@ -115,8 +118,10 @@ returns-2 c =
 pub draw-blocks-spec : {M : Type 1} → statement M
 draw-blocks-spec =
     tie.close
-    (tie.spec Inv-loop μ-loop (λ c. search needs) (λ c. search needs) (λ c. search needs) (λ c. search needs) loop-holds (λ c κs. search needs) (λ c κs. search needs)
-    same-length returns (λ c. search needs) (λ c. search needs) (λ c. search needs) (λ c. search needs) (λ c. mod-le _ _) (λ c. omega (arith, c .shared-slice-known2 .given (turn c .before .loop .at))) (λ c. omega (arith, c .shared-slice-known2 .given (turn c .before .loop .at), begin (turn c .before) .fits .choices))
+    (tie.spec Inv-loop μ-loop (λ c. search needs) (λ c. search needs) (λ c. search needs) (λ c. search needs) loop-holds (λ c κs. search needs)
+    (λ c κs. search needs) same-length returns (λ c. search needs) (λ c. search needs) (λ c. search needs) (λ c. search needs) (λ c. mod-le _ _)
+    (λ c. omega (arith, c .shared-slice-known2 .given (turn c .before .loop .at)))
+    (λ c. omega (arith, c .shared-slice-known2 .given (turn c .before .loop .at), begin (turn c .before) .fits .choices))
     (λ c. omega (arith, room c)) (λ c. omega (arith, room c)) (λ c. omega (arith, room c)) (λ c. omega (arith, room c)) (λ c. room c) cast-fill-block
     fill-block-requires (λ c. omega arith) loop-again (λ c. omega arith) loop-again-2 add-succeeded-after (λ c. omega (arith, begin (c .before) .pre .0 .0))
     (λ c. omega (arith, counted c)) (λ c κs. search needs) (λ c. c .before .before .loop .inv any .kept) returns-2)
