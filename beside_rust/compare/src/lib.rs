@@ -8,6 +8,10 @@ pub mod model_side;
 pub mod prepared;
 #[cfg(feature = "engine")]
 pub mod rattle_side;
+pub mod report;
+pub mod report_bench;
+pub mod report_requests;
+pub mod report_texts;
 pub mod rust_side;
 pub mod skips;
 pub mod word_list;

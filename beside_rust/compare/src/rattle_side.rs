@@ -1,6 +1,6 @@
 //! The Rattle engine as a side of the comparison, by the calls that README.md lists.
 
-use crate::{Answer, Distr, Engine, Tables};
+use crate::{Answer, Distr, Engine, Tables, report::Report};
 
 unsafe extern "C" {
     safe fn beside_make(kind: u32, a: usize, b: usize, p: f64, q: f64) -> u32;
@@ -80,6 +80,21 @@ unsafe extern "C" {
         skipped_words: *mut u64,
         skipped_bytes: *mut u64,
     ) -> u32;
+
+    fn beside_report(
+        residues: *const u64,
+        residues_len: usize,
+        modulus: u64,
+        limits: *const u64,
+        limits_len: usize,
+        counts: *mut u64,
+        counts_len: usize,
+        negative: *mut u8,
+        sum_high: *mut u64,
+        sum_low: *mut u64,
+        squares_high: *mut u64,
+        squares_low: *mut u64,
+    ) -> u32;
 }
 
 pub struct RattleSide;
@@ -141,4 +156,22 @@ impl Engine for RattleSide {
     ) -> Answer {
         draw!(beside_crt, distr, (count, moduli.as_ptr(), moduli.len()), tables, words, place, output)
     }
+}
+
+/// A report over residues. The sign, a byte, and the sums start at what no refusal reports.
+pub fn report(residues: &[u64], modulus: u64, limits: &[u64], counts: &mut [u64]) -> Report {
+    let (mut sign, mut sums) = (1, [u64::MAX; 4]);
+    let [sum_high, sum_low, squares_high, squares_low] = &mut sums;
+    // SAFETY: each pointer goes with its slice's length, and the engine touches nothing else.
+    #[rustfmt::skip]
+    let number = unsafe {
+        beside_report(
+            residues.as_ptr(), residues.len(), modulus,
+            limits.as_ptr(), limits.len(), counts.as_mut_ptr(), counts.len(),
+            &mut sign, sum_high, sum_low, squares_high, squares_low,
+        )
+    };
+    let [sum_high, sum_low, squares_high, squares_low] = sums;
+    assert!(sign <= 1, "a boolean is 0 or 1");
+    Report { number, negative: sign == 1, sum_high, sum_low, squares_high, squares_low }
 }

@@ -34,14 +34,43 @@ pub fn own_tables(deviation: f64) -> Tables {
     Tables::of(&SignedDiscreteGaussian::new(deviation).expect("a good deviation"))
 }
 
-/// Keeps the panics by which `sample_crt_to` refuses from being printed.
+/// The panics by which `sample_crt_to` and `gaussian_stats` refuse, and the number of each refusal.
+const REFUSALS: [(&str, u32); 7] = [
+    ("CRT error output length", 11),
+    ("CRT error modulus must be nonzero", 10),
+    ("CRT error modulus cannot encode", 9),
+    ("modulus must be positive", 24),
+    ("modulus must not exceed 2^53", 24),
+    ("counts must have the same length as ranges", 25),
+    ("samples must be canonical residues", 26),
+];
+
+/// The number of the refusal that a panic says.
+fn number_said(text: &str) -> Option<u32> {
+    REFUSALS.iter().find(|(said, _)| text.contains(said)).map(|(_, number)| *number)
+}
+
+/// Keeps the panics that refuse from being printed.
 pub fn print_no_refusals() {
     let print = take_hook();
     set_hook(Box::new(move |panic| {
-        if !panic.payload_as_str().is_some_and(|text| text.contains("CRT error")) {
+        if panic.payload_as_str().and_then(number_said).is_none() {
             print(panic);
         }
     }));
+}
+
+/// What a call of the Rust gives, or the number of the panic that refuses it.
+pub fn refusal_of<T>(run: impl FnOnce() -> T) -> Result<T, u32> {
+    catch_unwind(AssertUnwindSafe(run)).or_else(|panic| {
+        let text = panic.downcast_ref::<String>().map(String::as_str);
+        let text = text.or(panic.downcast_ref::<&str>().copied()).unwrap_or_default();
+        match number_said(text) {
+            Some(number) => Err(number),
+            None if panic.is::<OutOfWords>() => Err(23),
+            None => resume_unwind(panic),
+        }
+    })
 }
 
 impl Engine for RustSide {
@@ -136,23 +165,8 @@ fn rejected_bytes(read: &[u32], accepted: usize) -> u64 {
 /// Runs a draw: the new place and the words that its choices passed over, or the number of its panic.
 fn draw(words: &[u32], place: usize, run: impl FnOnce(&mut Words)) -> Result<(usize, u64), u32> {
     let mut rng = Words::new(words, place);
-    match catch_unwind(AssertUnwindSafe(|| run(&mut rng))) {
-        Ok(()) => Ok((rng.place(), rng.passed_over())),
-        Err(panic) if panic.is::<OutOfWords>() => Err(23),
-        Err(panic) => {
-            let text = panic.downcast_ref::<String>().map(String::as_str);
-            let text = text.or(panic.downcast_ref::<&str>().copied()).unwrap_or_default();
-            if text.contains("CRT error output length") {
-                Err(11)
-            } else if text.contains("CRT error modulus must be nonzero") {
-                Err(10)
-            } else if text.contains("CRT error modulus cannot encode") {
-                Err(9)
-            } else {
-                resume_unwind(panic)
-            }
-        }
-    }
+    refusal_of(|| run(&mut rng))?;
+    Ok((rng.place(), rng.passed_over()))
 }
 
 /// "23 keeps the place and writes zeros over the output": the Rust leaves what it had written.

@@ -1,6 +1,6 @@
 -- The distribution that a kind names, and the answer of a call.
 use Prim.Native.Nat.{ℕ}
-use mathlib.Core.Bool.{cond}
+use mathlib.Core.Bool.{Bool, cond}
 use mathlib.Core.List.{List, [], _∷_}
 use lib.Dec.{leb}
 use lib.ListN.{getD}
@@ -13,6 +13,7 @@ use Rattle.distr.specs.declared.error_distribution.ErrorDistribution.the-varian
 use Rattle.distr.specs.Constants.{etaLimit}
 use Rattle.distr.specs.Skipped.{Skipped}
 use Rattle.distr.specs.Draw.{Outcome}
+use Rattle.stats.specs.declared.Report.{Report}
 use Rattle.any_sampler.specs.declared.AnyDistr.{AnyDistr}
 use Rattle.any_sampler.specs.declared.AnyDistr.the-variants.{Secret, Error, Unknown}
 
@@ -45,3 +46,14 @@ answered number place output = record { number = number; place = place; output =
 -- 02 [1]: the two sums that a call writes.
 abbrev pub written : ℕ → ℕ → Skipped
 written words bytes = record { words = words; bytes = bytes }
+
+-- What a report writes: its number, its sign and the halves of its sums.
+abbrev pub reportOf : ℕ → Bool → ℕ → ℕ → ℕ → ℕ → Report
+reportOf number negative sumHigh sumLow squaresHigh squaresLow = record {
+  number = number;
+  negative = negative;
+  «sum_high» = sumHigh;
+  «sum_low» = sumLow;
+  «squares_high» = squaresHigh;
+  «squares_low» = squaresLow;
+}

@@ -1,16 +1,19 @@
 // Serves the comparison with the Rust, not a user: the calls that a comparison beside the Rust makes: a draw by kind, with its sampler made in the call.
 // A draw answers the number, and writes the place through new_place: the old one where the draw is refused. It writes the words that its choices
-// passed over and the bytes that it rejected through skipped_words and skipped_bytes: zeros where it is refused.
+// passed over and the bytes that it rejected through skipped_words and skipped_bytes: zeros where it is refused. A report writes its sign and the halves of
+// its sums, zeros where it is refused, and the counts, which are then left.
 // What a foreign caller must keep, since no contract can ask it of one: every pointer, that of an empty slice too, is aligned for its
-// elements and never null; it is valid for its length, for writing where the slice is the output; and output, new_place,
-// skipped_words and skipped_bytes overlap neither each other nor anything else that the call is lent.
+// elements and never null; it is valid for its length, for writing where the slice is the output or the counts; and
+// these, new_place and whatever else a call writes through overlap neither each other nor anything else that the call is lent.
 mod crt;
 mod encoded;
 mod kind;
+mod report;
 mod signed;
 
 pub use crt::beside_crt;
 pub use encoded::beside_encoded;
+pub use report::beside_report;
 pub use signed::beside_signed;
 ghost use mathlib.Core.Path.{_≡_};
 ghost use Rattle.any_sampler.specs.Either.{preparingAny};

@@ -1,5 +1,5 @@
 -- The numbers that refuse, and the limits that document 01 names. When each number comes stands in Making, Numbers and Draw.
-use Prim.Native.Nat.{ℕ}
+use Prim.Native.Nat.{ℕ, _^_}
 use mathlib.Core.Bool.{false}
 use lib.Ieee.{Float, binary64, round}
 
@@ -73,6 +73,18 @@ placePastEnd = 22
 abbrev pub outOfWords : ℕ
 outOfWords = 23
 
+-- 02 [2]: "It refuses with 24 a modulus outside the range."
+abbrev pub modulusOutOfRange : ℕ
+modulusOutOfRange = 24
+
+-- 02 [2]: "Then with 25 a count list whose length is not the limit list's."
+abbrev pub countsLengthMismatch : ℕ
+countsLengthMismatch = 25
+
+-- 02 [2]: "Then with 26 a residue not below the modulus."
+abbrev pub residueNotCanonical : ℕ
+residueNotCanonical = 26
+
 -- ---- limits
 
 -- The f64 nearest to a fraction, as the compiler reads a literal: 0.7 is `literal 7 10`.
@@ -112,3 +124,7 @@ sheetCoefficients = 4096
 
 abbrev pub sheetWords : ℕ
 sheetWords = 8192
+
+-- 02 [2]: "A modulus of 1 to 2^53."
+abbrev pub reportModulusLimit : ℕ
+reportModulusLimit = 2 ^ 53

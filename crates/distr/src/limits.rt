@@ -17,3 +17,6 @@ pub const MAX_SHEET_BYTES: usize = 65536;
 pub const MAX_SHEET_COEFFICIENTS: u32 = 4096;
 
 pub const MAX_SHEET_WORDS: u32 = 8192;
+
+// Largest modulus of a report over residues (02 [2]).
+pub const MAX_EXACT_F64_INTEGER: u64 = 0x20_0000_0000_0000;

@@ -32,3 +32,10 @@ pub const NEVER_MADE: u32 = 21;
 pub const PAST_END: u32 = 22;
 
 pub const OUT_OF_WORDS: u32 = 23;
+
+// The report over residues of 02 [2].
+pub const MODULUS_OUT_OF_RANGE: u32 = 24;
+
+pub const COUNTS_LENGTH_MISMATCH: u32 = 25;
+
+pub const RESIDUE_NOT_CANONICAL: u32 = 26;

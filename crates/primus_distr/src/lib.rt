@@ -25,6 +25,8 @@ pub use secret_key_sampler::MadeSecretKeySampler;
 pub use secret_key_sampler::SecretKeySampler;
 pub use secret_key_sampler::is_binary;
 pub use secret_key_sampler::is_ternary;
+pub use stats::Report;
+pub use stats::residue_report;
 pub use ternary::ternary::TernaryEnds;
 pub use ternary::ternary::TernaryValue;
 pub use ternary_sampler::MadeTernarySampler;

@@ -1,6 +1,5 @@
 -- Laws that the proofs of this crate share.
 pub mod Words
-pub mod Digits
 pub mod Placing
 pub mod Lines
 pub mod Patterns

@@ -10,9 +10,10 @@ use lib.Dec.{ltb}
 use lib.ListN.{length, getD, drop, length-append, length-map, drop-of-length-le, List·getD-map}
 use lib.Seq.{drop-cons}
 use lib.IntN.{ℤ, pos, negsuc, natAbs}
-use Rattle.sheet.specs.Text.{decimal, onlyIf, signedText, itemText, lineFrom, line}
+use Rattle.decimal.specs.Decimal.{decimal}
+use Rattle.decimal.proofs.Digits.{decimal-few}
+use Rattle.sheet.specs.Text.{onlyIf, signedText, itemText, lineFrom, line}
 use Rattle.sheet.specs.Patterns.{isMinus, valueOf, valuesOf}
-use Rattle.sheet.proofs.Digits.{decimal-few}
 
 ltb-zero-suc : (i : ℕ) → ltb 0 (suc i) ≡ true
 ltb-zero-suc i = lt-ltb 0 (suc i) (omega arith)

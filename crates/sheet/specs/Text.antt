@@ -1,24 +1,11 @@
 -- The text of an answer, as bytes: decimal numbers, spaces and newlines.
-use Prim.Native.Nat.{ℕ, zero, suc, _+_, _/_, _%_}
+use Prim.Native.Nat.{ℕ, suc}
 use mathlib.Core.Bool.{Bool, true, false, cond}
 use mathlib.Core.List.{List, [], _∷_, _++_}
 use lib.Dec.{eqb}
 use lib.IntN.{ℤ, pos, negsuc}
+use Rattle.decimal.specs.Decimal.{decimal}
 use Rattle.distr.specs.Skipped.{Skipped}
-
--- The byte of the last decimal digit.
-abbrev pub lastDigit : ℕ → ℕ
-lastDigit n = 48 + n % 10
-
--- The decimal digits of n, highest first and no 0 before them, so none for 0. The first argument bounds their count.
-unfoldable pub digitsOf : ℕ → ℕ → List ℕ
-digitsOf zero n = []
-digitsOf (suc more) zero = []
-digitsOf (suc more) (suc n) = digitsOf more (suc n / 10) ++ (lastDigit (suc n) ∷ [])
-
--- A number in decimal; 0 is "0". (It has no more than n digits before the last one.)
-unfoldable pub decimal : ℕ → List ℕ
-decimal n = digitsOf n (n / 10) ++ (lastDigit n ∷ [])
 
 -- A byte where it is wanted.
 abbrev pub onlyIf : Bool → ℕ → List ℕ

@@ -4,7 +4,8 @@ ghost use mathlib.Core.Path.{_≡_};
 ghost use Prim.Native.Nat.{_+_, _*_, _≤_};
 ghost use lib.ListN.{length};
 ghost use lib.IntN.{natAbs};
-ghost use Rattle.sheet.specs.Text.{decimal, onlyIf, itemText, line};
+ghost use Rattle.decimal.specs.Decimal.{decimal};
+ghost use Rattle.sheet.specs.Text.{onlyIf, itemText, line};
 ghost use Rattle.sheet.specs.Patterns.{valueOf, valuesOf};
 ghost use Rattle.sheet.specs.Written.{Written};
 

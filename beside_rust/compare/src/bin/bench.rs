@@ -1,10 +1,11 @@
 //! Nanoseconds a coefficient, both sides: the same words, which move on from call to call, the same output, taken in turn,
-//! the least of many rounds. Argument: the number of rounds (40 where none is given).
+//! the least of many rounds; then nanoseconds a residue of a report. Argument: the number of rounds (40 where none is given).
 
 use std::{env, hint::black_box, time::Instant};
 
 use compare::{
-    Answer, Call, Distr, Engine, Kind, OtherSide, Tables, prepared::Prepared, rust_side::RustSide, word_list::WordList,
+    Answer, Call, Distr, Engine, Kind, OtherSide, Tables, prepared::Prepared, report_bench, rust_side::RustSide,
+    word_list::WordList,
 };
 
 const LENGTHS: [usize; 3] = [1_024, 4_096, 65_536];
@@ -165,4 +166,6 @@ fn main() {
         let [made, empty] = bench.fixed_costs(&Prepared::new(distr));
         println!("| {name} | {made:.0} | {empty:.0} |");
     }
+    println!();
+    report_bench::print_table(rounds);
 }

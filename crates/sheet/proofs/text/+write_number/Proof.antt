@@ -5,8 +5,8 @@ use native.Mathlib.Omega.{arith}
 use borrow.Fn.Kinds.{In}
 use borrow.Fn.PlainCycle.{Measures, is, falls, and}
 use lib.ListN.{length-set}
-use Rattle.sheet.specs.Text.{lastDigit}
-use Rattle.sheet.proofs.Digits.{decimal-small, decimal-more, small-length, more-length}
+use Rattle.decimal.specs.Decimal.{lastDigit}
+use Rattle.decimal.proofs.Digits.{decimal-small, decimal-more, small-length, more-length}
 use Rattle.sheet.proofs.Placing.{written-byte, written-then, written-length}
 use Rattle.sheet.proofs.text.write_number.Reads as own
 use Rattle.sheet.proofs.text.write_number.Kinds as kinds

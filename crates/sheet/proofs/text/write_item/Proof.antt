@@ -3,7 +3,7 @@ use mathlib.Core.Path.{ap}
 use native.Mathlib.Omega.{arith}
 use borrow.Author.Needs.{needs}
 use lib.ListN.{length}
-use Rattle.sheet.specs.Text.{decimal}
+use Rattle.decimal.specs.Decimal.{decimal}
 use Rattle.sheet.proofs.Placing.{written-then, written-length}
 use Rattle.sheet.proofs.Lines.{value-text, item-length}
 use Rattle.sheet.proofs.text.write_item.Statement.{statement}

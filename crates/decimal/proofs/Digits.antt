@@ -5,7 +5,7 @@ use Prim.Native.Nat.{ℕ, zero, suc, _+_, _/_, _^_, _<_, _≤_}
 use native.Mathlib.Nat.{div-eq-of-lt, mod-eq-of-lt, div-lt-iff-lt-mul, pow-suc}
 use native.Mathlib.Omega.{arith}
 use lib.ListN.{length, length-append}
-use Rattle.sheet.specs.Text.{lastDigit, digitsOf, decimal}
+use Rattle.decimal.specs.Decimal.{lastDigit, digitsOf, decimal}
 
 digits-zero : (more : ℕ) → digitsOf more 0 ≡ []
 unfolding digitsOf

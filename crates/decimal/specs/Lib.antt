@@ -1,0 +1,2 @@
+-- Decimal text.
+pub mod Decimal

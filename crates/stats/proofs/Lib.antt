@@ -1,0 +1,11 @@
+pub mod Totals
+pub mod Below
+pub mod Integers
+pub mod Centering
+pub mod Within
+pub mod Squares
+pub mod Blocks
+pub mod Reports
+pub mod Exactness
+pub mod WorkedCases
+pub mod Carrying
