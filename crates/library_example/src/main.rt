@@ -13,6 +13,7 @@ use primus_distr::SignedDiscreteGaussian;
 use primus_distr::TernarySampler;
 use primus_distr::crt_row;
 use primus_distr::crt_row_range;
+use primus_distr::residue_report;
 use primus_distr::residues;
 use primus_distr::signed;
 
@@ -107,6 +108,16 @@ fn skipped() {
     );
 }
 
+// Over 5 the residues 3, 4 and 1 are -2, -1 and 1: their sum is -2, that of their squares 6, and none of the magnitudes is 0, two are at most 1. 5 is no
+// residue of 5: 26, with zero sums, and the counts are as they were.
+fn reports() {
+    let mut counts = [9u64; 2];
+    let report = residue_report(&[3, 4, 1], 5, &[0, 1], &mut counts);
+    print::report_line(b"report over 5", report, &counts);
+    let refused = residue_report(&[0, 5], 5, &[0, 1], &mut counts);
+    print::report_line(b"5 over 5", refused, &counts);
+}
+
 fn main() {
     keys();
     errors();
@@ -115,6 +126,7 @@ fn main() {
     ternary();
     at_once();
     skipped();
+    reports();
     refusals::states();
     refusals::inputs();
 }

@@ -1,6 +1,7 @@
 // Lines on standard output.
 use libc::STDOUT_FILENO;
 use primus_distr::Answer;
+use primus_distr::Report;
 
 // The name, the number and the place.
 fn head(name: &[u8], number: u32, place: usize) {
@@ -54,13 +55,33 @@ pub(crate) fn signed_line(name: &[u8], answer: Answer, values: &[i64]) {
     end();
 }
 
-// A line of residues.
-pub(crate) fn line(name: &[u8], answer: Answer, values: &[u64]) {
-    head(name, answer.number, answer.place);
+// The numbers that end a line.
+fn rest(values: &[u64]) {
     let mut i = 0;
     while i < values.len() {
         unsigned(values[i]);
         i += 1;
     }
     end();
+}
+
+// A line of residues.
+pub(crate) fn line(name: &[u8], answer: Answer, values: &[u64]) {
+    head(name, answer.number, answer.place);
+    rest(values);
+}
+
+// A line of a report: its number, a minus sign where the sum is negative, the halves of both sums, and the counts.
+pub(crate) fn report_line(name: &[u8], report: Report, counts: &[u64]) {
+    io::write_all(STDOUT_FILENO, name);
+    io::write_all(STDOUT_FILENO, b": ");
+    io::print_decimal(STDOUT_FILENO, report.number as u64);
+    if report.negative {
+        io::write_all(STDOUT_FILENO, b" -");
+    }
+    unsigned(report.sum_high);
+    unsigned(report.sum_low);
+    unsigned(report.squares_high);
+    unsigned(report.squares_low);
+    rest(counts);
 }

@@ -6,24 +6,21 @@ use Prim.Native.Nat.{ℕ, zero, suc, _+_, _<_, _≤_}
 use native.Mathlib.Nat.{le-of-suc-le-suc}
 use native.Mathlib.Numerals.{add-one}
 use native.Mathlib.Omega.{arith}
-use borrow.Author.Tests.{ltb-true}
+use borrow.Author.Tests.{ltb-true, lt-ltb}
 use lib.Dec.{ltb}
 use lib.ListN.{length, getD, take, drop, take-append-drop}
 use lib.Seq.{take-suc}
+use Rattle.distr.proofs.Reading.{both-true}
 use Rattle.stats.specs.Centered.{allBelow}
-
-pub both : (a b : Bool) → (a && b) ≡ true → (a ≡ true) × (b ≡ true)
-both true b e = (refl, e)
-both false b e = absurd (let z : _≡_ {A = ℕ} 0 1 = cc in omega arith)
 
 module _ (modulus : ℕ) where
   pub below-first : (r : ℕ) (rs : List ℕ) → allBelow modulus (r ∷ rs) ≡ true → r < modulus
   unfolding allBelow
-  below-first r rs e = ltb-true r modulus (both (ltb r modulus) (allBelow modulus rs) e .0)
+  below-first r rs e = ltb-true r modulus (both-true (ltb r modulus) (allBelow modulus rs) e .0)
 
   pub below-rest : (r : ℕ) (rs : List ℕ) → allBelow modulus (r ∷ rs) ≡ true → allBelow modulus rs ≡ true
   unfolding allBelow
-  below-rest r rs e = both (ltb r modulus) (allBelow modulus rs) e .1
+  below-rest r rs e = both-true (ltb r modulus) (allBelow modulus rs) e .1
 
   below-append : (xs ys : List ℕ) → allBelow modulus (xs ++ ys) ≡ (allBelow modulus xs && allBelow modulus ys)
   unfolding allBelow
@@ -37,7 +34,7 @@ module _ (modulus : ℕ) where
   -- the two parts of a list
   pub below-parts : (i : ℕ) (rs : List ℕ) → allBelow modulus rs ≡ true → (allBelow modulus (take i rs) ≡ true) × (allBelow modulus (drop i rs) ≡ true)
   below-parts i rs e =
-      both (allBelow modulus (take i rs)) (allBelow modulus (drop i rs))
+      both-true (allBelow modulus (take i rs)) (allBelow modulus (drop i rs))
       (sym (below-append (take i rs) (drop i rs)) ∙ ap (allBelow modulus) (take-append-drop i rs) ∙ e)
 
   -- a block
@@ -48,6 +45,12 @@ module _ (modulus : ℕ) where
   below-at [] i e h = absurd (omega arith)
   below-at (r ∷ rs) zero e h = below-first r rs e
   below-at (r ∷ rs) (suc i) e h = below-at rs i (below-rest r rs e) (le-of-suc-le-suc h)
+
+  -- and where each is, all are
+  pub all-below : (rs : List ℕ) → ((i : ℕ) → i < length rs → getD rs i 0 < modulus) → allBelow modulus rs ≡ true
+  unfolding allBelow
+  all-below [] each = refl
+  all-below (r ∷ rs) each = rw (lt-ltb r modulus (each 0 (omega arith))) (all-below rs (λ i h. each (suc i) (omega arith)))
 
   -- one residue more is judged
   pub below-more : (rs : List ℕ) (i : ℕ) → i < length rs

@@ -56,9 +56,12 @@ module _ (residues : List ℕ) (modulus : ℕ) (limits counts : ℕ) (a : Accept
   squares-bound : squaresOf (centeredAll modulus residues) ≤ 2 ^ 120
   squares-bound = rw (squares-is modulus residues) (squares-most modulus residues (a .modulusMost) (a .below) (a .few))
 
-pub every-report-exact : EveryReportExact
+-- by the report's number
+by-number : (residues : List ℕ) (modulus : ℕ) (limits counts : List ℕ)
+    → let r = report residues modulus limits counts .0 in
+    r .number ≡ 0 → Exact residues modulus r
 unfolding report
-every-report-exact residues modulus limits counts e = by (eqb number 0) refl e
+by-number residues modulus limits counts e = by (eqb number 0) refl e
   where
     number : ℕ
     number = reportNumber residues modulus (length limits) (length counts)
@@ -83,3 +86,8 @@ every-report-exact residues modulus limits counts e = by (eqb number 0) refl e
         r .number ≡ 0 → Exact residues modulus r
     by true z e = exact (eqb-true number 0 z)
     by false z e = absurd (eqb-false number 0 z e)
+
+pub every-report-exact : EveryReportExact
+every-report-exact residues modulus limits before after r e z =
+    let same : r ≡ report residues modulus limits before .0 = ap (λ (p : Report × List ℕ). p .0) e in
+    rw same (by-number residues modulus limits before (rw same at z))

@@ -4,11 +4,12 @@ use mathlib.Core.Bool.{Bool, true, false, not, cond, _||_}
 use mathlib.Core.List.{List, [], _∷_, map}
 use Prim.Native.Nat.{ℕ, suc, _+_, _*_, _-_, _/_, _%_, _^_, _<_, _≤_}
 use native.Mathlib.Omega.{arith}
-use borrow.Author.Tests.{ltb-false, eqb-true, not-false, ne-eqb}
+use borrow.Author.Tests.{ltb-false, eqb-true, not-false, le-ltb, eq-eqb, ne-eqb}
 use lib.Dec.{ltb, eqb}
 use lib.ListN.{length}
 use lib.IntN.{ℤ, pos, negsuc, natAbs, negℤ, subℕ}
-use Rattle.distr.specs.Numbers.{tooLong}
+use Rattle.distr.specs.Numbers.{firstOf, tooLong}
+use Rattle.distr.proofs.Reading.{or-false}
 use Rattle.distr.proofs.Drawing.{first-passed, not-refused}
 use Rattle.stats.specs.declared.Report.{Report}
 use Rattle.stats.specs.Centered.{centeredAll, sumOf, squaresOf, howManyWithin, allBelow}
@@ -39,10 +40,6 @@ pub record Accepted (residues : List ℕ) (modulus limits counts : ℕ) : Type 0
   pub same : counts ≡ limits
   pub below : allBelow modulus residues ≡ true
 
-either : (a b : Bool) → (a || b) ≡ false → b ≡ false
-either true b e = absurd (let z : _≡_ {A = ℕ} 0 1 = cc in omega arith)
-either false b e = e
-
 pub accepted : (residues : List ℕ) (modulus limits counts : ℕ) → reportNumber residues modulus limits counts ≡ 0 → Accepted residues modulus limits counts
 unfolding reportNumber
 accepted residues modulus limits counts e =
@@ -52,7 +49,20 @@ accepted residues modulus limits counts e =
     let d = first-passed (residuesNumber modulus residues) [] (c .1) in
     record {
       few = ltb-false 65536 (length residues) (not-refused _ 5 (a .0));
-      modulusMost = ltb-false (2 ^ 53) modulus (either (eqb modulus 0) _ (not-refused _ 23 (b .0)));
+      modulusMost = ltb-false (2 ^ 53) modulus (or-false (eqb modulus 0) _ (not-refused _ 23 (b .0)) .1);
       same = eqb-true counts limits (not-false _ (not-refused _ 24 (c .0)));
       below = not-false _ (not-refused _ 25 (d .0));
     }
+
+-- and what is so is not refused
+pub not-refused-report : (residues : List ℕ) (modulus limits : ℕ) → length residues ≤ 65536 → 1 ≤ modulus → modulus ≤ 2 ^ 53
+    → allBelow modulus residues ≡ true → reportNumber residues modulus limits limits ≡ 0
+unfolding reportNumber firstOf
+not-refused-report residues modulus limits few some most below =
+    rw (
+      le-ltb 65536 (length residues) few,
+      ne-eqb modulus 0 (λ e. omega arith),
+      le-ltb (2 ^ 53) modulus most,
+      eq-eqb limits limits refl,
+      below,
+    )

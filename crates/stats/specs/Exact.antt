@@ -23,9 +23,9 @@ pub record Exact (residues : List ℕ) (modulus : ℕ) (r : Report) : Type 0 whe
   pub sumBound : natAbs (sumOf (centeredAll modulus residues)) ≤ 2 ^ 68
   pub squaresBound : squaresOf (centeredAll modulus residues) ≤ 2 ^ 120
 
--- Every report with number 0 is exact.
+-- Every call that keeps the contract and answers 0 hands back the exact sums.
 abbrev pub EveryReportExact : Type 0
 EveryReportExact =
-    (residues : List ℕ) (modulus : ℕ) (limits counts : List ℕ)
-    → let r = report residues modulus limits counts .0 in
-    r .number ≡ 0 → Exact residues modulus r
+    (residues : List ℕ) (modulus : ℕ) (limits before after : List ℕ) (r : Report)
+    → (r, after) ≡ report residues modulus limits before
+    → r .number ≡ 0 → Exact residues modulus r
