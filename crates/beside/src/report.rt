@@ -17,7 +17,11 @@ pub extern "C" fn beside_report(
     squares_high: &mut u64,
     squares_low: &mut u64,
 ) -> u32
-    ensures { λ r. ⌜ (reportOf r (now (negative .exit)) (now («sum_high» .exit)) (now («sum_low» .exit)) (now («squares_high» .exit)) (now («squares_low» .exit)), now (counts .exit))
+    ensures { λ r. ⌜ (
+      reportOf r (now (negative .exit)) (now («sum_high» .exit)) (now («sum_low» .exit))
+          (now («squares_high» .exit)) (now («squares_low» .exit)),
+      now (counts .exit),
+    )
         ≡ report (now (residues .entry)) modulus (now (limits .entry)) (now (counts .entry)) ⌝ }
 {
     let answer = residue_report(residues, modulus, limits, counts);

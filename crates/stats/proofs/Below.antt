@@ -2,7 +2,7 @@
 use mathlib.Core.Path.{_≡_, refl, sym, ap, _∙_}
 use mathlib.Core.Bool.{Bool, true, false, _&&_, and-true}
 use mathlib.Core.List.{List, [], _∷_, _++_}
-use Prim.Native.Nat.{ℕ, zero, suc, _+_, _<_, _≤_}
+use Prim.Native.Nat.{ℕ, zero, suc, _+_, _<_}
 use native.Mathlib.Nat.{le-of-suc-le-suc}
 use native.Mathlib.Numerals.{add-one}
 use native.Mathlib.Omega.{arith}
@@ -32,7 +32,8 @@ module _ (modulus : ℕ) where
       grouped false b c = refl
 
   -- the two parts of a list
-  pub below-parts : (i : ℕ) (rs : List ℕ) → allBelow modulus rs ≡ true → (allBelow modulus (take i rs) ≡ true) × (allBelow modulus (drop i rs) ≡ true)
+  pub below-parts : (i : ℕ) (rs : List ℕ) → allBelow modulus rs ≡ true
+      → (allBelow modulus (take i rs) ≡ true) × (allBelow modulus (drop i rs) ≡ true)
   below-parts i rs e =
       both-true (allBelow modulus (take i rs)) (allBelow modulus (drop i rs))
       (sym (below-append (take i rs) (drop i rs)) ∙ ap (allBelow modulus) (take-append-drop i rs) ∙ e)

@@ -1,7 +1,7 @@
 -- The sums of a block, and of blocks one after the other: what they are, and that they fit.
 use mathlib.Core.Path.{_≡_, refl, sym, ap, _∙_}
 use mathlib.Core.Bool.{true}
-use mathlib.Core.List.{List, [], _∷_}
+use mathlib.Core.List.{List, []}
 use Prim.Native.Nat.{ℕ, suc, _+_, _*_, _-_, _/_, _%_, _^_, _<_, _≤_}
 use native.Mathlib.Nat.{mul-add, mul-le-mul, mul-le-mul-right, mul-zero, le-trans, lt-of-le-of-lt, mod-eq-of-lt}
 use native.Mathlib.Omega.{arith}
@@ -12,9 +12,9 @@ use Rattle.stats.specs.declared.sums.BlockSums.{BlockSums}
 use Rattle.stats.specs.declared.sums.Totals.{Totals}
 use Rattle.stats.specs.declared.wide.Halves.{Halves}
 use Rattle.stats.specs.Centered.{allBelow}
-use Rattle.stats.specs.Sums.{valueOf, total, atMost, aboveHalf, sizeOf, residueSums, blockSums, squaresFrom, TotalsOf, FitsTotals}
+use Rattle.stats.specs.Sums.{valueOf, total, aboveHalf, sizeOf, residueSums, blockSums, squaresFrom, TotalsOf, FitsTotals}
 use Rattle.stats.proofs.Totals.{total-more, total-block, total-most}
-use Rattle.stats.proofs.Below.{below-at, below-parts}
+use Rattle.stats.proofs.Below.{below-parts}
 use Rattle.stats.proofs.Centering.{at-most-few, size-most}
 use Rattle.stats.proofs.Squares.{squares-from}
 use Rattle.stats.proofs.Carrying.{high-few}
@@ -22,20 +22,6 @@ use Rattle.stats.proofs.Carrying.{high-few}
 -- a number of at most 2^120 has a high half far below 2^64
 pub halves-fit : (h : Halves) {n : ℕ} → valueOf h ≡ n → n ≤ 2 ^ 120 → h .high < 2 ^ 60
 halves-fit h e l = high-few (h .high) (h .low) (2 ^ 60) (rw e (lt-of-le-of-lt l (lit< tt)))
-
--- the products of a block's sums
-module _ (b : BlockSums) (u : b .upper < 2 ^ 64) (c : b .cross < 2 ^ 64) (l : b .lower < 2 ^ 64) where
-  pub upper-fits : b .upper * 2 ^ 52 ≤ 2 ^ 120
-  upper-fits = omega arith
-
-  pub cross-fits : b .cross * 2 ^ 27 ≤ 2 ^ 120
-  cross-fits = omega arith
-
-  pub products-fit : b .upper * 2 ^ 52 + b .cross * 2 ^ 27 ≤ 2 ^ 120
-  products-fit = omega arith
-
-  pub squares-fit : squaresFrom b ≤ 2 ^ 120
-  squares-fit = omega arith
 
 -- Sums of n residues of a modulus of at most 2^53.
 pub record Small (n : ℕ) (s : BlockSums) : Type 0 where

@@ -8,7 +8,7 @@ use native.Mathlib.Omega.{arith}
 use borrow.Author.Tests.{leb-true, leb-false, le-leb, lt-leb, le-ltb}
 use lib.Dec.{leb}
 use lib.ListN.{length}
-use lib.IntN.{ℤ, pos, natAbs, subℕ, _+ℤ_, _-ℤ_}
+use lib.IntN.{ℤ, pos, subℕ, _+ℤ_}
 use Rattle.stats.specs.Centered.{centered, centeredAll, sumOf, squaresOf, howManyWithin, allBelow}
 use Rattle.stats.specs.Sums.{total, atMost, aboveHalf, sizeOf}
 use Rattle.stats.proofs.Below.{below-first, below-rest}

@@ -10,7 +10,7 @@ use lib.Dec.{ltb, eqb}
 use lib.ListN.{length}
 use lib.IntN.{ℤ, pos, negsuc, natAbs, negℤ, subℕ, _+ℤ_}
 use Rattle.stats.specs.declared.Report.{Report}
-use Rattle.stats.specs.Centered.{centered, centeredAll, sumOf, squaresOf, howManyWithin, allBelow}
+use Rattle.stats.specs.Centered.{centered, centeredAll, sumOf, squaresOf, howManyWithin}
 use Rattle.stats.specs.Report.{reportNumber, isNegative, highHalf, lowHalf, exactReport, refusedReport, report}
 use Rattle.stats.specs.Exact.{joined, signed, Exact, EveryReportExact}
 use Rattle.stats.specs.Sums.{total, sizeOf}
@@ -51,7 +51,9 @@ module _ (residues : List ℕ) (modulus : ℕ) (limits counts : ℕ) (a : Accept
   sum-bound : natAbs (sumOf (centeredAll modulus residues)) ≤ 2 ^ 68
   sum-bound =
       le-trans (sums-most modulus residues)
-      (le-trans (total-most (sizeOf modulus) modulus (2 ^ 52) residues (λ r h. omega (arith, size-most modulus r h, a .modulusMost)) (a .below)) (omega (arith, a .few)))
+      (le-trans
+      (total-most (sizeOf modulus) modulus (2 ^ 52) residues (λ r h. omega (arith, size-most modulus r h, a .modulusMost)) (a .below))
+      (omega (arith, a .few)))
 
   squares-bound : squaresOf (centeredAll modulus residues) ≤ 2 ^ 120
   squares-bound = rw (squares-is modulus residues) (squares-most modulus residues (a .modulusMost) (a .below) (a .few))

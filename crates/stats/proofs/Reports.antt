@@ -1,21 +1,19 @@
 -- The report: by its number, and its sums in halves. The halves are the exact sums.
-use mathlib.Core.Path.{_≡_, refl, sym, ap, _∙_}
-use mathlib.Core.Bool.{Bool, true, false, not, cond, _||_}
-use mathlib.Core.List.{List, [], _∷_, map}
-use Prim.Native.Nat.{ℕ, suc, _+_, _*_, _-_, _/_, _%_, _^_, _<_, _≤_}
+use mathlib.Core.Path.{_≡_, refl}
+use mathlib.Core.Bool.{Bool, true, false, cond}
+use mathlib.Core.List.{List, [], _∷_}
+use Prim.Native.Nat.{ℕ, suc, _-_, _^_, _<_, _≤_}
 use native.Mathlib.Omega.{arith}
 use borrow.Author.Tests.{ltb-false, eqb-true, not-false, le-ltb, eq-eqb, ne-eqb}
 use lib.Dec.{ltb, eqb}
 use lib.ListN.{length}
-use lib.IntN.{ℤ, pos, negsuc, natAbs, negℤ, subℕ}
+use lib.IntN.{pos, negsuc, natAbs, subℕ}
 use Rattle.distr.specs.Numbers.{firstOf, tooLong}
 use Rattle.distr.proofs.Reading.{or-false}
 use Rattle.distr.proofs.Drawing.{first-passed, not-refused}
-use Rattle.stats.specs.declared.Report.{Report}
-use Rattle.stats.specs.Centered.{centeredAll, sumOf, squaresOf, howManyWithin, allBelow}
-use Rattle.stats.specs.Report.{modulusNumber, countsNumber, residuesNumber, reportNumber, isNegative, highHalf, lowHalf, exactReport, refusedReport, report}
-use Rattle.stats.specs.Exact.{joined, signed, Exact}
-use Rattle.stats.specs.Sums.{total, aboveHalf, sizeOf}
+use Rattle.stats.specs.Centered.{allBelow}
+use Rattle.stats.specs.Report.{modulusNumber, countsNumber, residuesNumber, reportNumber, isNegative, exactReport}
+use Rattle.stats.specs.Exact.{joined}
 use Rattle.stats.proofs.Carrying.{high-is, low-is}
 
 -- the sign of a difference
@@ -40,7 +38,8 @@ pub record Accepted (residues : List ℕ) (modulus limits counts : ℕ) : Type 0
   pub same : counts ≡ limits
   pub below : allBelow modulus residues ≡ true
 
-pub accepted : (residues : List ℕ) (modulus limits counts : ℕ) → reportNumber residues modulus limits counts ≡ 0 → Accepted residues modulus limits counts
+pub accepted : (residues : List ℕ) (modulus limits counts : ℕ) → reportNumber residues modulus limits counts ≡ 0
+    → Accepted residues modulus limits counts
 unfolding reportNumber
 accepted residues modulus limits counts e =
     let a = first-passed (tooLong (length residues)) (modulusNumber modulus ∷ countsNumber counts limits ∷ residuesNumber modulus residues ∷ []) e in

@@ -29,7 +29,8 @@ module _ (rs : List ℕ) (modulus limit : ℕ) where
     one-side : atMost (sizeOf modulus (getD rs i 0)) limit ≡ atMost (getD rs i 0) limit + atMost (modulus - limit) (getD rs i 0)
     one-side = within-sides modulus (getD rs i 0) limit (below-at modulus rs i below h) less
 
-    pub counted-more : {a b : ℕ} → a ≡ atMost (getD rs i 0) limit → b ≡ atMost (modulus - limit) (getD rs i 0) → Counted (i + 1) (count + (a + b))
+    pub counted-more : {a b : ℕ} → a ≡ atMost (getD rs i 0) limit → b ≡ atMost (modulus - limit) (getD rs i 0)
+        → Counted (i + 1) (count + (a + b))
     counted-more {a} {b} p q = record {
       few = omega (arith, c .few, p, q, one-side, at-most-few (sizeOf modulus (getD rs i 0)) limit);
       counts = omega (arith, c .counts, p, q, one-side, total-more (λ r. atMost (sizeOf modulus r) limit) rs i h);
@@ -53,7 +54,8 @@ module _ (f : ℕ → ℕ) (limits counts₀ : List ℕ) (same : length counts�
   listed-length {i} h l =
       ap length (l .listed) ∙ written-length (map f limits) counts₀ i (rw length-map h) (rw same h) ∙ same
 
-  pub listed-more : {i v : ℕ} {counts : List ℕ} → i < length limits → Listed i counts → v ≡ f (getD limits i 0) → Listed (i + 1) (set counts i v)
+  pub listed-more : {i v : ℕ} {counts : List ℕ} → i < length limits → Listed i counts → v ≡ f (getD limits i 0)
+      → Listed (i + 1) (set counts i v)
   listed-more {i} {v} h l e =
       record {
         listed =
@@ -63,4 +65,6 @@ module _ (f : ℕ → ℕ) (limits counts₀ : List ℕ) (same : length counts�
 
   pub listed-all : {i : ℕ} {counts : List ℕ} → i ≡ length limits → Listed i counts → counts ≡ map f limits
   listed-all {i} e l =
-      l .listed ∙ ap (λ (k : ℕ). written (map f limits) k counts₀) (e ∙ sym same) ∙ written-all (map f limits) counts₀ (length-map limits f ∙ sym same)
+      l .listed
+      ∙ ap (λ (k : ℕ). written (map f limits) k counts₀) (e ∙ sym same)
+      ∙ written-all (map f limits) counts₀ (length-map limits f ∙ sym same)

@@ -1,9 +1,9 @@
 -- What the inner functions of the report compute: numbers in halves, and sums over residues.
-use Prim.Native.Nat.{ℕ, suc, _+_, _*_, _-_, _/_, _%_, _^_, _<_}
+use Prim.Native.Nat.{ℕ, suc, _+_, _*_, _/_, _%_, _^_, _<_}
 use mathlib.Core.Path.{_≡_}
 use mathlib.Core.Bool.{cond}
 use mathlib.Core.List.{List, [], _∷_}
-use lib.Dec.{leb, ltb}
+use lib.Dec.{leb}
 use lib.IntN.{natAbs}
 use Rattle.stats.specs.declared.wide.Halves.{Halves}
 use Rattle.stats.specs.declared.sums.BlockSums.{BlockSums}

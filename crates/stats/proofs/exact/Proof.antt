@@ -11,7 +11,8 @@ returns c =
     let start = c .before .before .before .before .before in
     let t = start .args .totals in
     let d = c .difference .result in
-    exact-is _ (d .high) (d .low) (t .squares .high) (t .squares .low) (valueOf (t .residues)) (valueOf (t .moduli)) (omega (arith, c .difference .ok)) (omega (arith, start .good)) (c .before .is-below .ensures) (c .difference .ensures)
+    exact-is _ (d .high) (d .low) (t .squares .high) (t .squares .low) (valueOf (t .residues)) (valueOf (t .moduli))
+    (omega (arith, c .difference .ok)) (omega (arith, start .good)) (c .before .is-below .ensures) (c .difference .ensures)
 
 pub exact-spec : {M : Type 1} → statement M
 exact-spec = tie.close (tie.spec (λ c κs. search needs) (λ c κs. search needs) returns)

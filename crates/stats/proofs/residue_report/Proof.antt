@@ -34,10 +34,12 @@ returns-2 c =
     let counting = c .before .before .before .before in
     let test = counting .before .before in
     let a = test .before .before .before .before .before .args in
+    let totals = c .before .sum-residues .ensures in
     rw (← test .before .report-number .ensures, test .if1 .left, sum-is (a .modulus) (a .residues .now), squares-is (a .modulus) (a .residues .now))
-    (rw (c .exact .ensures, counting .count-limits .ensures, c .before .sum-residues .ensures .residues, c .before .sum-residues .ensures .moduli, c .before .sum-residues .ensures .squares) refl)
+    (rw (c .exact .ensures, counting .count-limits .ensures, totals .residues, totals .moduli, totals .squares) refl)
 
 pub residue-report-spec : {M : Type 1} → statement M
 residue-report-spec =
     tie.close
-    (tie.spec (λ c κs. search needs) (λ c κs. search needs) returns count-limits-requires sum-residues-requires (λ c κs. search needs) (λ c. search needs) returns-2)
+    (tie.spec (λ c κs. search needs) (λ c κs. search needs) returns count-limits-requires sum-residues-requires (λ c κs. search needs)
+    (λ c. search needs) returns-2)

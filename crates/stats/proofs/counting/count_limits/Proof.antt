@@ -1,5 +1,5 @@
 -- `counting::count_limits` writes the counts front to back: after i turns those of the first i limits.
-use Prim.Native.Nat.{ℕ, _-_, _≤_}
+use Prim.Native.Nat.{_-_, _≤_}
 use mathlib.Core.Path.{_≡_}
 use native.Mathlib.Nat.{le-antisymm}
 use native.Mathlib.Omega.{arith}
@@ -11,7 +11,8 @@ use Rattle.stats.proofs.counting.count_limits.Tie as tie
 
 abbrev Inv-loop : tie.InvT-loop
 Inv-loop residues modulus limits counts₀ n i₀ counts i =
-    (i ≤ n) × (same : length counts₀ ≡ length limits) × Listed (λ limit. howManyWithin limit (centeredAll modulus residues)) limits counts₀ same i counts
+    (i ≤ n) × (same : length counts₀ ≡ length limits)
+    × Listed (λ limit. howManyWithin limit (centeredAll modulus residues)) limits counts₀ same i counts
 
 abbrev μ-loop : tie.MeasureT-loop
 μ-loop residues modulus limits counts₀ n i₀ counts i = n - i

@@ -1,8 +1,7 @@
 -- `counting::count_within` counts all residues, or those within the limit from either side: after i turns those of the first i.
-use mathlib.Core.Bool.{true}
 use Prim.Native.Nat.{_+_, _-_, _<_, _≤_}
 use native.Mathlib.Omega.{arith}
-use lib.ListN.{length, getD}
+use lib.ListN.{getD}
 use Rattle.stats.proofs.Below.{below-at}
 use Rattle.stats.proofs.Centering.{within-all}
 use Rattle.stats.proofs.Within.{Counted, counted-none, counted-more, counted-all}

@@ -1,8 +1,8 @@
 -- `sums::all_below` judges all residues: after i turns the first i are judged.
-use mathlib.Core.Path.{_≡_, refl, sym, ap, _∙_}
+use mathlib.Core.Path.{_≡_, refl, ap, _∙_}
 use Prim.Native.Nat.{_-_, _≤_}
 use native.Mathlib.Omega.{arith}
-use lib.ListN.{length, take}
+use lib.ListN.{take}
 use lib.Seq.{take-all}
 use Rattle.stats.specs.Centered.{allBelow}
 use Rattle.stats.proofs.Below.{below-more}

@@ -1,7 +1,4 @@
 -- `sums::at_most`: 2^63 + b − a reaches 2^63 where a is at most b.
-use mathlib.Core.Path.{_≡_}
-use Prim.Native.Nat.{ℕ, _+_, _-_, _/_, _^_, _≤_}
-use native.Mathlib.Omega.{arith}
 use borrow.Author.Needs.{needs}
 use Rattle.stats.proofs.Centering.{top-bit}
 use Rattle.stats.proofs.sums.at_most.Statement.{statement}

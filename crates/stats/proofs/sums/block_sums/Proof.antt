@@ -1,7 +1,7 @@
 -- `sums::block_sums` adds up what each residue of the block gives: after i turns the first i are summed. At most 1,024 residues fit.
 use Prim.Native.Nat.{_-_, _<_, _≤_}
 use native.Mathlib.Omega.{arith}
-use lib.ListN.{length, getD}
+use lib.ListN.{getD}
 use Rattle.stats.proofs.Below.{below-at}
 use Rattle.stats.proofs.Blocks.{Small, Summed, summed-none, summed-more, summed-all, summed-small, residue-small}
 use Rattle.stats.proofs.sums.block_sums.Statement.{statement}
@@ -33,8 +33,10 @@ small c =
     let test = c .before .before in
     let start = test .before .before .before in
     let a = start .args in
-    let inv = test .before .loop .inv in
-    (summed-small (a .modulus) (a .block .now) (start .pre .1) (start .pre .2) (inv .0) (inv .1), rw (c .sums-of .ensures) (residue-small (a .modulus) (start .pre .1) _ (residue-below test)))
+    let inv = test .before .loop .inv in (
+      summed-small (a .modulus) (a .block .now) (start .pre .1) (start .pre .2) (inv .0) (inv .1),
+      rw (c .sums-of .ensures) (residue-small (a .modulus) (start .pre .1) _ (residue-below test)),
+    )
 
 add-residues : tie.Need-add-residues Inv-loop μ-loop
 add-residues c = omega (arith, small (c .before))
@@ -63,5 +65,5 @@ returns c = summed-all _ _ (c .loop-test .left) (c .before .loop .inv .1)
 pub block-sums-spec : {M : Type 1} → statement M
 block-sums-spec =
     tie.close
-    (tie.spec Inv-loop μ-loop (λ c. (omega arith, summed-none _ _)) (λ c. omega arith) (λ c. omega arith) sums-of-requires add-residues add-negatives add-upper
-    add-cross add-lower (λ c. omega arith) (λ c. omega arith) loop-again returns)
+    (tie.spec Inv-loop μ-loop (λ c. (omega arith, summed-none _ _)) (λ c. omega arith) (λ c. omega arith) sums-of-requires add-residues add-negatives
+    add-upper add-cross add-lower (λ c. omega arith) (λ c. omega arith) loop-again returns)

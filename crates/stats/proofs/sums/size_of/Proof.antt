@@ -14,7 +14,8 @@ returns-2 : tie.Need-returns-2
 returns-2 c =
     let start = c .before .before in
     let a = start .args in
-    sym (size-high (a .modulus) (a .residue) (some-above (a .modulus) (a .residue) (λ e. c .if1 .left (c .before .above-half .ensures ∙ e))) (start .pre .1))
+    let above = some-above (a .modulus) (a .residue) (λ e. c .if1 .left (c .before .above-half .ensures ∙ e)) in
+    sym (size-high (a .modulus) (a .residue) above (start .pre .1))
 
 pub size-of-spec : {M : Type 1} → statement M
 size-of-spec = tie.close (tie.spec (λ c κs. search needs) returns (λ c. search needs) returns-2)

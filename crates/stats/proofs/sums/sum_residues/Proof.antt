@@ -1,10 +1,8 @@
 -- `sums::sum_residues` sums a block after the other: the totals are those of the residues before `at`.
-use mathlib.Core.Path.{ap, sym, _∙_}
-use Prim.Native.Nat.{_*_, _-_, _≤_}
-use native.Mathlib.Nat.{le-trans}
+use Prim.Native.Nat.{_-_, _≤_}
 use native.Mathlib.Omega.{arith}
 use borrow.Author.Needs.{needs}
-use lib.ListN.{length, take, drop, length-take}
+use lib.ListN.{take, length-take}
 use lib.Seq.{take-all}
 use Rattle.stats.specs.Sums.{TotalsOf}
 use Rattle.stats.proofs.Below.{below-parts, below-block}
@@ -37,8 +35,9 @@ with-block-requires c κs =
     let start = test .before .before .before .before in
     let a = start .args in
     let loop = test .before .loop in
-    let part = take (loop .at) (a .residues .now) in (
-      totals-fit (a .modulus) part (start .pre .1) (below-parts (a .modulus) (loop .at) (a .residues .now) (start .pre .2) .0) (simp length-take (omega arith)) (loop .inv .1),
+    let part = take (loop .at) (a .residues .now) in
+    let below = below-parts (a .modulus) (loop .at) (a .residues .now) (start .pre .2) .0 in (
+      totals-fit (a .modulus) part (start .pre .1) below (simp length-take (omega arith)) (loop .inv .1),
       rw (c .block-sums .ensures) (block-moduli (a .modulus) _ (asked .1) (asked .2) (asked .0)),
     )
 
@@ -49,7 +48,9 @@ loop-again c =
     let loop = test .before .loop in
     let a = test .before .before .before .before .args in
     let e = c .with-block .ensures in
-    (omega arith, totals-more (a .modulus) (a .residues .now) (loop .at) (call .before .before .block-end .result) (omega arith) (loop .inv .1) (call .block-sums .ensures) (e .0) (e .1 .0) (e .1 .1))
+    let end = call .before .before .block-end .result in
+    let more = totals-more (a .modulus) (a .residues .now) (loop .at) end (omega arith) (loop .inv .1) (call .block-sums .ensures) in
+    (omega arith, more (e .0) (e .1 .0) (e .1 .1))
 
 returns : tie.Need-returns Inv-loop μ-loop
 returns c =
@@ -60,5 +61,5 @@ returns c =
 pub sum-residues-spec : {M : Type 1} → statement M
 sum-residues-spec =
     tie.close
-    (tie.spec Inv-loop μ-loop (λ c κs. search needs) loop-holds (λ c κs. search needs) (λ c. search needs) (λ c. search needs) (λ c. search needs) (λ c. search needs)
-    block-sums-requires with-block-requires (λ c. omega arith) loop-again returns)
+    (tie.spec Inv-loop μ-loop (λ c κs. search needs) loop-holds (λ c κs. search needs) (λ c. search needs) (λ c. search needs) (λ c. search needs)
+    (λ c. search needs) block-sums-requires with-block-requires (λ c. omega arith) loop-again returns)

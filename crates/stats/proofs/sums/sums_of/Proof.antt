@@ -1,5 +1,4 @@
 -- `sums::sums_of` multiplies the parts of the magnitude, which are below 2^32.
-use Prim.Native.Nat.{ℕ, _*_, _^_, _<_}
 use native.Mathlib.Omega.{arith}
 use borrow.Author.Needs.{needs}
 use Rattle.stats.specs.Sums.{residueSums}

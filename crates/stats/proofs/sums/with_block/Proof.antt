@@ -4,7 +4,7 @@ use Prim.Native.Nat.{_+_}
 use native.Mathlib.Omega.{arith}
 use borrow.Author.Needs.{needs}
 use Rattle.stats.specs.Sums.{valueOf}
-use Rattle.stats.proofs.Blocks.{halves-fit, squares-fit}
+use Rattle.stats.proofs.Blocks.{halves-fit}
 use Rattle.stats.proofs.sums.with_block.Statement.{statement}
 use Rattle.stats.proofs.sums.with_block.Tie as tie
 
@@ -18,7 +18,8 @@ returns c =
     let second = c .before .before in
     let first = second .before .before in
     let squares = first .before .before .before .before .args .totals .squares in
-    (omega (arith, first .add .ensures), (omega (arith, second .add2 .ensures), c .add3 .ensures ∙ ap (λ n. valueOf squares + n) (c .before .block-squares .ensures)))
+    let third = c .add3 .ensures ∙ ap (λ n. valueOf squares + n) (c .before .block-squares .ensures) in
+    (omega (arith, first .add .ensures), (omega (arith, second .add2 .ensures), third))
 
 pub with-block-spec : {M : Type 1} → statement M
 with-block-spec =
