@@ -62,7 +62,7 @@ fn above_half(modulus: u64, residue: u64) -> u64
     at_most(modulus / 2 + 1, residue)
 }
 
-// The magnitude of a residue's centered value.
+// The magnitude of a residue's centered value, which is that of the Rust's `to_centered`.
 fn size_of(modulus: u64, residue: u64) -> u64
     requires { ⌜ (modulus ≤ reportModulusLimit) × (residue < modulus) ⌝ }
     ensures { λ r. ⌜ r ≡ sizeOf modulus residue ⌝ }
