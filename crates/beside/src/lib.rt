@@ -8,11 +8,13 @@
 mod crt;
 mod encoded;
 mod kind;
+mod polynomial;
 mod report;
 mod signed;
 
 pub use crt::beside_crt;
 pub use encoded::beside_encoded;
+pub use polynomial::beside_sample_poly_cbd;
 pub use report::beside_report;
 pub use signed::beside_signed;
 ghost use mathlib.Core.Path.{_≡_};

@@ -24,14 +24,14 @@ module _ (s : CenteredBinomialParameters) (made : isMadeBinomial s ≡ true) whe
   low-count : (w : ℕ) → ones (bitAnd w (s .mask)) ≡ firstSum (s .eta) w
   low-count w =
       let small : s .eta ≤ 32 = made-small s made in
-      rw (made-mask s made, and-mask w (s .eta)) (sym (first-ones (s .eta) w (omega arith)))
+      rw (made-mask s made, and-mask w (s .eta)) (sym (first-ones 64 (s .eta) w (omega arith)))
 
   -- the ones under the mask above it
   upper-count : (upper w : ℕ) → upper ≡ upperMask s → ones (bitAnd w upper) ≡ secondSum (s .eta) w
   upper-count upper w e =
       let small : s .eta ≤ 32 = made-small s made in
       rw (e, made-mask s made, ← high-ones (s .eta) (s .eta), and-high w (s .eta) (s .eta), moved-ones (s .eta) (w / 2 ^ s .eta % 2 ^ s .eta))
-      (sym (second-ones (s .eta) w (omega arith)))
+      (sym (second-ones 64 (s .eta) w (omega arith)))
 
   -- the mask above it fits a word
   pub upper-fits : s .mask * 2 ^ s .eta % 2 ^ 64 ≡ upperMask s

@@ -19,6 +19,7 @@ use Rattle.secret_key_sampler.proofs.Made.{makes}
 use Rattle.error_sampler.proofs.Made.{makes as error-makes}
 use Rattle.certificate.specs.Certificate.{Accepted, Demand3, Reaching, ForSampler, Certificate}
 use Rattle.certificate.proofs.Reached.{demand-3, accepted}
+use Rattle.certificate.proofs.Polynomials.{polynomials-counted}
 
 -- a sampler of either kind: what is made passes its test, so its requests are accepted
 module _ {D M S R : Type 0} (k : Makes D M S R) where
@@ -61,9 +62,11 @@ certificate = record {
   errors = for-sampler error-makes;
   compositions = λ s minus ones n bounds cs cs′ e. compositions (good makes s) minus ones n bounds cs cs′;
   choices = λ k l u. record { each = choice-each k l; others = λ w h. choice-others k l w };
+  polynomials = polynomials-counted;
   secret-key-draws = (λ κs before. refl, λ κs before answer after. refl);
   error-draws = (λ κs before. refl, λ κs before answer after. refl);
   secret-key-making = (λ κs before. refl, λ κs before made after. refl);
   error-making = (λ κs before. refl, λ κs before made after. refl);
   bounded-choice = (λ κs before. refl, λ κs before answer after. refl);
+  polynomial-draws = (λ κs before. refl, λ κs before number after. refl);
 }

@@ -1,4 +1,5 @@
 pub mod Tails
 pub mod Reached
+pub mod Polynomials
 pub mod Certificate
 pub mod Instances

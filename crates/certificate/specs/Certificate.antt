@@ -23,6 +23,7 @@ use Rattle.counts.specs.Inside.{inside}
 use Rattle.counts.specs.Formula.{formula}
 use Rattle.words.specs.declared.Taken.{Taken}
 use Rattle.words.proofs.uniform_below.Reads as uniform-below
+use Rattle.poly_cbd.proofs.sample_poly_cbd.Reads as sample-poly-cbd
 use Rattle.secret_key_sampler.specs.declared.SecretKeySampler.{SecretKeySampler}
 use Rattle.secret_key_sampler.specs.Sampler.{isMade, making}
 use Rattle.secret_key_sampler.proofs.SecretKeySampler.try_new.Reads as secret-key-try-new
@@ -31,7 +32,8 @@ use Rattle.error_sampler.specs.declared.ErrorSampler.{ErrorSampler}
 use Rattle.error_sampler.specs.Sampler.{isMade as isMadeError, making as makingError}
 use Rattle.error_sampler.proofs.ErrorSampler.try_new.Reads as error-try-new
 use Rattle.error_sampler.proofs.ErrorSampler.sample_signed_to.Reads as error-sample-signed-to
-use Rattle.certificate.specs.Contracts.{Contract, SignedArguments, SignedCall, ChoiceArguments, BoundedChoice}
+use Rattle.certificate.specs.Polynomials.{PolynomialsCounted}
+use Rattle.certificate.specs.Contracts.{Contract, SignedArguments, SignedCall, ChoiceArguments, BoundedChoice, CbdArguments, CbdCall}
 
 -- ---- a request and its calls
 
@@ -113,6 +115,8 @@ pub record Certificate : Type 1 where
       → (N : ℕ) × Exactly (List ℕ) N (Reaching (isMade s) (secret d) n bounds cs) × Exactly (List ℕ) N (Reaching (isMade s) (secret d) n bounds cs′)
   -- "And for every k from 1 to 2^32, a bounded choice among k values gives each of them …"
   pub choices : (k : ℕ) → 1 ≤ k → k ≤ 2 ^ 32 → FairChoice k
+  -- 02 [3]: "A polynomial with centered coefficients v is reached by the product of C(2eta, eta+v) byte strings", of eta 2 and 3.
+  pub polynomials : (eta : ℕ) → (eta ≡ 2) ⊎ (eta ≡ 3) → PolynomialsCounted eta
   -- the signed draws
   pub secret-key-draws : Contract 6 (SignedArguments SecretKeySampler) Answer (SignedCall isMade (λ s. secret (s .distr)))
       secret-key-sample-signed-to.Pre secret-key-sample-signed-to.Post
@@ -125,3 +129,5 @@ pub record Certificate : Type 1 where
       error-try-new.Pre error-try-new.Post
   -- the bounded choice
   pub bounded-choice : Contract 1 ChoiceArguments Taken BoundedChoice uniform-below.Pre uniform-below.Post
+  -- the byte form
+  pub polynomial-draws : Contract 2 CbdArguments ℕ CbdCall sample-poly-cbd.Pre sample-poly-cbd.Post

@@ -1,4 +1,4 @@
--- The contracts of the code that demand 3 is about: what a signed draw and a bounded choice promise of a call. Certificate ties each to its function.
+-- The contracts of the code that demand 3 is about: what a signed draw, a bounded choice and a polynomial from bytes promise of a call. Certificate ties each to its function.
 use Prim.Native.Nat.{ℕ}
 use mathlib.Core.Path.{_≡_}
 use mathlib.Core.Bool.{Bool}
@@ -17,6 +17,7 @@ use Rattle.distr.specs.Draw.{outcome, Meets}
 use Rattle.words.specs.declared.Taken.{Taken}
 use Rattle.words.specs.Reading.{taken}
 use Rattle.signed_discrete_gaussian.specs.Lent.{lent}
+use Rattle.certificate.specs.Polynomials.{MeetsCbd}
 
 -- What the checker reads off a function's contract: `Pre` is what it asks of the arguments, and here that is nothing; `Post` is what it promises of the
 -- arguments, the answer and the arguments at exit, and that is `Promise`.
@@ -44,3 +45,10 @@ ChoiceArguments = RefT (List ℕ) × (ℕ × (ℕ × Unit {0}))
 abbrev pub BoundedChoice : ChoiceArguments → Taken → ChoiceArguments → Type 0
 BoundedChoice (words, (place, (k, end))) answer after =
     answer ≡ taken (length (now words)) (passedOver k (drop place (now words))) (choose k (drop place (now words)))
+
+-- The arguments of `sample_poly_cbd`: output, eta, bytes. Its promise is what `MeetsCbd` says.
+abbrev pub CbdArguments : Type 0
+CbdArguments = RefT (List ℕ) × (ℕ × (RefT (List ℕ) × Unit {0}))
+
+abbrev pub CbdCall : CbdArguments → ℕ → CbdArguments → Type 0
+CbdCall (output, (eta, (bytes, end))) number (written, _) = MeetsCbd eta (now bytes) (now output) number (now written)

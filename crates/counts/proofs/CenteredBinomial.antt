@@ -7,11 +7,13 @@ use native.Mathlib.Numerals.{add-one}
 use native.Mathlib.Omega.{arith}
 use borrow.Author.Tests.{leb-true, leb-false, le-ltb, lt-ltb}
 use lib.Dec.{leb, eqb, lit<, eqb·zero-suc, eqb·suc-zero, eqb·suc-suc}
+use lib.ListN.{take, drop}
 use lib.Arith.{digits-div, digits-mod}
 use lib.Pow.{pow-add}
 use lib.Count.{ones, ones-step, ones-cat}
 use lib.IntN.{ℤ, pos, negsuc, natAbs, _+ℤ_, _-ℤ_, +ℤ-assoc, +ℤ-comm, -ℤ-+ℤ-cancel, +ℤ-negℤ-cancel}
-use Rattle.distr.specs.CenteredBinomial.{binomialValue, centeredBinomial}
+use Rattle.distr.specs.Packed.{digits}
+use Rattle.distr.specs.CenteredBinomial.{total, binomialValue, centeredBinomial}
 use Rattle.counts.specs.Inside.{same, within, listOf}
 use Rattle.counts.specs.Formula.{binomial, binomialWays, productOf}
 use Rattle.counts.proofs.Exact.{Counted}
@@ -135,11 +137,16 @@ ones-at eta (negsuc j) = go (leb (suc j) eta) refl
     go true e = rw (le-ltb eta (suc j) (leb-true (suc j) eta e)) (pascal (2 * eta) (eta - suc j))
     go false e = rw (lt-ltb eta (suc j) (leb-false (suc j) eta e)) (sum-zero (2 ^ (2 * eta)))
 
--- the words that give c: by their two sums, the second half turned into its complement
-pub binomial-ways : (eta : ℕ) → eta ≤ 32 → (c : ℤ) → ways (2 ^ 64) (binomialValue eta) c ≡ cond (within eta c) (binomialWays eta c) 0
-binomial-ways eta h c =
-    sum-ext (2 ^ 64) _ _ (λ w l. ap₂ test (first-ones eta w (omega arith)) (second-ones eta w (omega arith)))
-    ∙ ap (λ r. sum r (λ w. test (ones (w % P)) (ones (w / P % P)))) width
+-- the first sum less the second, of the bits of a number that many bits wide
+abbrev pub bitDifference : ℕ → ℕ → ℕ → ℤ
+bitDifference width eta w = pos (total (take eta (digits 2 width w))) -ℤ pos (total (take eta (drop eta (digits 2 width w))))
+
+-- the numbers that give c: by their two sums, the second half turned into its complement
+pub binomial-ways : (width eta : ℕ) → 2 * eta ≤ width → (c : ℤ)
+    → ways (2 ^ width) (bitDifference width eta) c ≡ cond (within eta c) (binomial (2 * eta) (natAbs (pos eta +ℤ c)) * 2 ^ (width - 2 * eta)) 0
+binomial-ways width eta h c =
+    sum-ext (2 ^ width) _ _ (λ w l. ap₂ test (first-ones width eta w (omega arith)) (second-ones width eta w h))
+    ∙ ap (λ r. sum r (λ w. test (ones (w % P)) (ones (w / P % P)))) whole
     ∙ parts rest P (λ a b. test (ones a) (ones b))
     ∙ ap (λ n. rest * n) complemented
     ∙ among (within eta c)
@@ -148,15 +155,15 @@ binomial-ways eta h c =
     P = 2 ^ eta
 
     rest : ℕ
-    rest = 2 ^ (64 - 2 * eta)
+    rest = 2 ^ (width - 2 * eta)
 
     test : ℕ → ℕ → ℕ
     test x z = bit (same (pos x -ℤ pos z) c)
 
-    width : 2 ^ 64 ≡ rest * P * P
-    width =
-        let exponent : 64 ≡ 64 - 2 * eta + eta + eta = omega arith in
-        ap (λ n. 2 ^ n) exponent ∙ pow-add 2 (64 - 2 * eta + eta) eta ∙ ap (λ n. n * P) (pow-add 2 (64 - 2 * eta) eta)
+    whole : 2 ^ width ≡ rest * P * P
+    whole =
+        let exponent : width ≡ width - 2 * eta + eta + eta = omega arith in
+        ap (λ n. 2 ^ n) exponent ∙ pow-add 2 (width - 2 * eta + eta) eta ∙ ap (λ n. n * P) (pow-add 2 (width - 2 * eta) eta)
 
     complemented : sum P (λ b. sum P (λ a. test (ones a) (ones b))) ≡ cond (within eta c) (binomial (2 * eta) (natAbs (pos eta +ℤ c))) 0
     complemented =
@@ -166,10 +173,10 @@ binomial-ways eta h c =
         ∙ halves eta (λ n. bit (same (pos n) (pos eta +ℤ c)))
         ∙ ones-at eta c
 
-    among : (b : Bool) → rest * cond b (binomial (2 * eta) (natAbs (pos eta +ℤ c))) 0 ≡ cond b (binomialWays eta c) 0
+    among : (b : Bool) → rest * cond b (binomial (2 * eta) (natAbs (pos eta +ℤ c))) 0 ≡ cond b (binomial (2 * eta) (natAbs (pos eta +ℤ c)) * rest) 0
     among true = mul-comm rest (binomial (2 * eta) (natAbs (pos eta +ℤ c)))
     among false = mul-zero rest
 
 pub centered-binomial-counted : (eta n : ℕ) → eta ≤ 32
     → Counted (centeredBinomial eta n) (λ cs. listOf n (within eta) cs) (λ cs. productOf (binomialWays eta) cs)
-centered-binomial-counted eta n h = wide-counted n (binomialValue eta) (within eta) (binomialWays eta) (binomial-ways eta h)
+centered-binomial-counted eta n h = wide-counted n (binomialValue eta) (within eta) (binomialWays eta) (binomial-ways 64 eta (omega arith))

@@ -54,11 +54,13 @@ module _ {A B : Type 0} (f : A → B) where
   member-unmap b (x ∷ xs) (inl e) = (x, e, inl refl)
   member-unmap b (x ∷ xs) (inr m) = let r = member-unmap b xs m in (r .0, r .1, inr (r .2))
 
-  distinct-map : ((a a′ : A) → f a ≡ f a′ → a ≡ a′) → (xs : List A) → Distinct xs → Distinct (map f xs)
+  distinct-map : (xs : List A) → ((a a′ : A) → Member a xs → Member a′ xs → f a ≡ f a′ → a ≡ a′) → Distinct xs → Distinct (map f xs)
   unfolding Member Distinct
-  distinct-map inj [] p = tt
-  distinct-map inj (x ∷ xs) p =
-      (λ m. let r = member-unmap (f x) xs m in p .0 (subst (λ (a : A). Member a xs) (sym (inj x (r .0) (r .1))) (r .2)), distinct-map inj xs (p .1))
+  distinct-map [] inj p = tt
+  distinct-map (x ∷ xs) inj p = (
+    λ m. let r = member-unmap (f x) xs m in p .0 (subst (λ (a : A). Member a xs) (sym (inj x (r .0) (inl refl) (inr (r .2)) (r .1))) (r .2)),
+    distinct-map xs (λ a a′ m n. inj a a′ (inr m) (inr n)) (p .1),
+  )
 
 -- ---- how many values have a property
 
@@ -112,11 +114,12 @@ module _ {A : Type 0} where
       ⊎-elim (λ e. inr (subst (λ (d : ℕ). Q d a) e (p .2))) (λ l. inl (p .0, l, p .2))
       (eq-or-lt-of-le (le-of-suc-le-suc (p .1))))
 
-pub exactly-map : {A B : Type 0} {N : ℕ} {P : A → Type 0} (f : A → B) → ((a a′ : A) → f a ≡ f a′ → a ≡ a′)
+-- as many images under a map that keeps the values with P apart
+pub exactly-map : {A B : Type 0} {N : ℕ} {P : A → Type 0} (f : A → B) → ((a a′ : A) → P a → P a′ → f a ≡ f a′ → a ≡ a′)
     → Exactly A N P → Exactly B N (λ b. (a : A) × (b ≡ f a) × P a)
 exactly-map {A} {B} f inj x = record {
   members = map f (x .members);
-  distinct = distinct-map f inj (x .members) (x .distinct);
+  distinct = distinct-map f (x .members) (λ a a′ m n. inj a a′ (x .sound a m) (x .sound a′ n)) (x .distinct);
   size = length-map (x .members) f ∙ x .size;
   sound = λ b m. let r = member-unmap f b (x .members) m in (r .0, r .1, x .sound (r .0) (r .2));
   complete = λ b p. subst (λ (c : B). Member c (map f (x .members))) (sym (p .1)) (member-map f (p .0) (x .members) (x .complete (p .0) (p .2)));
@@ -140,7 +143,7 @@ box-exactly (r ∷ rs) P =
     exactly-as
     (exactly-sum r (λ d. cnt rs (λ ds. bit (P (d ∷ ds)))) (λ d a. (ds : List ℕ) × (a ≡ d ∷ ds) × (T (inBox rs ds) × T (P (d ∷ ds))))
     (λ d e a p q. heads d e a (p .0) (q .0) (p .1) (q .1))
-    (λ d. exactly-map (λ ds. d ∷ ds) (λ ds es e. tails d ds es e) (box-exactly rs (λ ds. P (d ∷ ds)))))
+    (λ d. exactly-map (λ ds. d ∷ ds) (λ ds es p q e. tails d ds es e) (box-exactly rs (λ ds. P (d ∷ ds)))))
     (λ a p.
     let d = p .0 in
     let q = p .2 in
@@ -166,6 +169,15 @@ below-exactly r P =
     (λ a p. subst (λ (d : ℕ). T (ltb d r) × T (P d)) (sym (p .2 .0)) (lt→ltb (p .0) r (p .1), p .2 .1))
     (λ a p. (a, ltb→lt a r (p .0), (refl, p .1)))
 
+-- the draw lists of a box that decode to cs are exactly as many as the sum of the test for cs
+pub decoded-exactly : (rs : List ℕ) (decode : List ℕ → List ℤ) (cs : List ℤ) {N : ℕ} → cnt rs (λ ds. bit (sameList (decode ds) cs)) ≡ N
+    → Exactly (List ℕ) N (λ ds. T (inBox rs ds) × (decode ds ≡ cs))
+decoded-exactly rs decode cs e =
+    subst (λ (N : ℕ). Exactly (List ℕ) N (λ ds. T (inBox rs ds) × (decode ds ≡ cs))) e
+    (exactly-as (box-exactly rs (λ ds. sameList (decode ds) cs))
+    (λ ds p. (p .0, sameList-eq (decode ds) cs (p .1)))
+    (λ ds p. (p .0, rw (p .1, sameList-refl cs) tt)))
+
 -- how many draw lists of a rule give cs
 abbrev pub reached : Rule → List ℤ → ℕ
 reached rule cs = cnt (rule .ranges) (λ ds. bit (sameList (rule .decode ds) cs))
@@ -186,11 +198,7 @@ pub counted : (rule : Rule) (inside : List ℤ → Bool) (formula : List ℤ →
     → ((words : List ℕ) (place : ℕ) (ds rest : List ℕ) → Carries rule words place ds rest → T (inBox (rule .ranges) ds))
     → Counted rule inside formula
 counted rule inside formula sums carried boxed = record {
-  exactly = λ cs.
-      subst (λ (N : ℕ). Exactly (List ℕ) N (λ ds. T (inBox (rule .ranges) ds) × (rule .decode ds ≡ cs))) (sums cs)
-      (exactly-as (box-exactly (rule .ranges) (λ ds. sameList (rule .decode ds) cs))
-      (λ ds p. (p .0, sameList-eq (rule .decode ds) cs (p .1)))
-      (λ ds p. (p .0, rw (p .1, sameList-refl cs) tt)));
+  exactly = λ cs. decoded-exactly (rule .ranges) (rule .decode) cs (sums cs);
   carried = carried;
   boxed = boxed;
 }

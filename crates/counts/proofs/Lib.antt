@@ -14,5 +14,6 @@ pub mod FixedComposition
 pub mod FixedWeights
 pub mod Blocks
 pub mod CenteredBinomial
+pub mod Polynomials
 pub mod Cumulative
 pub mod Requests

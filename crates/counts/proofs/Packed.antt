@@ -3,13 +3,13 @@ use mathlib.Core.Path.{_≡_, refl, sym, ap, ap₂, _∙_}
 use mathlib.Core.Bool.{Bool, true, false, not, cond, _&&_, and-assoc}
 use mathlib.Core.List.{List, [], _∷_, _++_}
 use Prim.Native.Nat.{ℕ, zero, suc, _+_, _-_, _*_, _/_, _%_, _^_, _<_, _≤_}
-use native.Mathlib.Nat.{mod-lt, suc-mul, zero-mul, zero-add, add-sub-of-le, pow-zero, pow-suc}
+use native.Mathlib.Nat.{mod-lt, div-lt-iff-lt-mul, div-add-mod', suc-mul, zero-mul, zero-add, add-sub-of-le, pow-zero, pow-suc}
 use native.Mathlib.Omega.{arith}
 use lib.Dec.{T, leb, ltb, eqb, ltb→lt, lt→ltb}
 use lib.Arith.{digits-lt, digits-div, digits-mod}
 use lib.Ieee.Fits.{and-i, and-l, and-r}
 use borrow.Author.Tests.{le-leb, lt-leb, leb-true, eq-eqb, ne-eqb}
-use lib.Seq.{take-all, take-at, length-take-le}
+use lib.Seq.{take-all, take-at, drop-at, length-take-le}
 use lib.ListN.{drop-of-length-le, length, take, drop, replicate, length-replicate, replicate-append-replicate, take-append-drop}
 use lib.IntN.{ℤ, pos, negsuc}
 use Rattle.distr.specs.Words.{got, short, mapRead, areWords, many, word}
@@ -18,7 +18,8 @@ use Rattle.counts.specs.Inside.{same, every, listOf, isBit, within, tall
 use Rattle.counts.specs.Formula.{productOf}
 use Rattle.counts.specs.DrawLists.{inBox, Carries}
 use Rattle.distr.proofs.Reading.{many-word}
-use Rattle.counts.proofs.Sums.{sum}
+use Rattle.distr.proofs.Digits.{length-digits}
+use Rattle.counts.proofs.Sums.{sum, inBox-cons}
 use Rattle.counts.proofs.Exact.{Counted, counted}
 use Rattle.counts.proofs.Products.{ways, map-law, product-tally, product-ones}
 use Rattle.counts.proofs.WideWords.{counted-as}
@@ -94,6 +95,14 @@ digits-joined base (suc k) (d ∷ ds) t =
     let h : d < base = ltb→lt d base (and-l (ltb d base) (inBox (replicate k base) ds) t) in
     rw (digits-mod (joined base ds) h, digits-div (joined base ds) h, digits-joined base k ds (and-r (ltb d base) (inBox (replicate k base) ds) t))
 
+-- and the number joined from the digits of a number is that number
+joined-digits : (base k x : ℕ) → 0 < base → x < base ^ k → joined base (digits base k x) ≡ x
+unfolding joined digits
+joined-digits base zero x h l = omega (arith, pow-zero base)
+joined-digits base (suc k) x h l =
+    let above : x / base < base ^ k = div-lt-iff-lt-mul h .1 (rw pow-suc at l) in
+    rw (joined-digits base k (x / base) h above) (div-add-mod' x base)
+
 pub digits-boxed : (base k x : ℕ) → 0 < base → T (inBox (replicate k base) (digits base k x))
 unfolding digits inBox
 digits-boxed base zero x h = tt
@@ -101,6 +110,13 @@ digits-boxed base (suc k) x h =
     and-i (ltb (x % base) base) (inBox (replicate k base) (digits base k (x / base))) (lt→ltb (x % base) base (mod-lt x h)) (digits-boxed base k (x / base) h)
 
 -- ---- draws in words
+
+box-are-words : (m : ℕ) (ws : List ℕ) → T (inBox (replicate m (2 ^ 32)) ws) → T (areWords ws)
+unfolding areWords inBox
+box-are-words zero [] t = tt
+box-are-words (suc m) (w ∷ ws) t =
+    let rest : Bool = inBox (replicate m (2 ^ 32)) ws in
+    and-i (ltb w (2 ^ 32)) (areWords ws) (and-l (ltb w (2 ^ 32)) rest t) (box-are-words m ws (and-r (ltb w (2 ^ 32)) rest t))
 
 -- just the words wanted, all of them taken
 all-words : (m : ℕ) (ws : List ℕ) → length ws ≡ m → many word m ws ≡ got ws []
@@ -134,13 +150,23 @@ module _ (base each : ℕ) where
   split-pack (suc m) ds t =
       ap₂ _++_ (digits-joined base each (take each ds) (word-parts m ds t .0)) (split-pack m (drop each ds) (word-parts m ds t .1)) ∙ take-append-drop each ds
 
-  pub pack-are-words : (m : ℕ) (ds : List ℕ) → base ^ each ≡ 2 ^ 32 → T (inBox (replicate (m * each) base) ds) → T (areWords (pack m ds))
-  unfolding pack areWords
-  pack-are-words zero ds h t = tt
-  pack-are-words (suc m) ds h t =
-      and-i (ltb (joined base (take each ds)) (2 ^ 32)) (areWords (pack m (drop each ds)))
-      (lt→ltb (joined base (take each ds)) (2 ^ 32) (omega (arith, h, joined-below base each (take each ds) (word-parts m ds t .0))))
-      (pack-are-words m (drop each ds) h (word-parts m ds t .1))
+  -- numbers that have so many digits are packed again from them
+  pub pack-split : (m : ℕ) (xs : List ℕ) → 0 < base → T (inBox (replicate m (base ^ each)) xs) → pack m (split base each xs) ≡ xs
+  unfolding split pack inBox
+  pack-split zero [] h t = refl
+  pack-split (suc m) (x ∷ xs) h t =
+      let long = length-digits base each x in
+      ap₂ (λ ds es. joined base ds ∷ pack m es) (take-at (digits base each x) (split base each xs) each long)
+      (drop-at (digits base each x) (split base each xs) each long)
+      ∙ ap₂ _∷_ (joined-digits base each x h (ltb→lt x (base ^ each) (and-l (ltb x (base ^ each)) (inBox (replicate m (base ^ each)) xs) t)))
+      (pack-split m xs h (and-r (ltb x (base ^ each)) (inBox (replicate m (base ^ each)) xs) t))
+
+  pub pack-boxed : (m : ℕ) (ds : List ℕ) → T (inBox (replicate (m * each) base) ds) → T (inBox (replicate m (base ^ each)) (pack m ds))
+  unfolding pack inBox
+  pack-boxed zero ds t = tt
+  pack-boxed (suc m) ds t =
+      inBox-cons (joined base (take each ds)) (base ^ each) (pack m (drop each ds)) (replicate m (base ^ each))
+      (joined-below base each (take each ds) (word-parts m ds t .0)) (pack-boxed m (drop each ds) (word-parts m ds t .1))
 
   pub split-boxed : (xs : List ℕ) → 0 < base → T (inBox (replicate (length xs * each) base) (split base each xs))
   unfolding split inBox
@@ -154,7 +180,7 @@ module _ (base each : ℕ) where
     packed-carried : (ds : List ℕ) → T (inBox (replicate n base) ds)
         → (words : List ℕ) × (rest : List ℕ) × Carries (packed base each m n value) words 0 ds rest
     unfolding mapRead
-    packed-carried ds t = (words, [], record { are-words = pack-are-words m padded full boxed; good-place = omega arith; reads = reads })
+    packed-carried ds t = (words, [], record { are-words = box-are-words m words (rw full at (pack-boxed m padded boxed)); good-place = omega arith; reads = reads })
       where
         padded : List ℕ
         padded = ds ++ replicate (m * each - n) 0

@@ -5,7 +5,7 @@ use mathlib.Core.Logic.{_⊎_}
 use mathlib.Core.Bool.{Bool, true, false, _&&_}
 use mathlib.Core.List.{List, [], _∷_}
 use lib.Dec.{T, ltb}
-use lib.ListN.{length, drop}
+use lib.ListN.{length, drop, replicate}
 use Rattle.distr.specs.Words.{got, areWords}
 use Rattle.distr.specs.Rule.{Rule}
 
@@ -22,6 +22,10 @@ pub record Carries (ρ : Rule) (words : List ℕ) (place : ℕ) (ds rest : List 
   pub are-words : T (areWords words)
   pub good-place : place ≤ length words
   pub reads : ρ .draws (drop place words) ≡ got ds rest
+
+-- 02 [3]: a byte string of n bytes, each below 256.
+abbrev pub byteString : ℕ → List ℕ → Bool
+byteString n B = inBox (replicate n 256) B
 
 -- a stands in the list.
 unfoldable pub Member : {A : Type 0} → A → List A → Type 0

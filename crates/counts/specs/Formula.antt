@@ -83,3 +83,7 @@ unfoldable pub formula : Distr → ℕ → List ℕ → List ℤ → ℕ
 formula (secret d) n bounds cs = secretFormula d n bounds cs
 formula (error (ErrorGaussian deviation)) n bounds cs = productOf (cumulativeWays (support deviation) bounds) cs
 formula (error (CenteredBinomial eta)) n bounds cs = productOf (binomialWays eta) cs
+
+-- 02 [3]: "A polynomial with centered coefficients v is reached by the product of C(2eta, eta+v) byte strings."
+abbrev pub polynomialFormula : ℕ → List ℤ → ℕ
+polynomialFormula eta vs = productOf (λ v. binomial (2 * eta) (natAbs (pos eta +ℤ v))) vs

@@ -10,6 +10,7 @@ use Rattle.distr.specs.declared.secret_key_distr.SecretKeyDistr.the-variants.{U
 use Rattle.distr.specs.declared.secret_key_distr.BlockOccupancy.{BlockOccupancy}
 use Rattle.distr.specs.declared.secret_key_distr.BlockOccupancy.the-variants.{AtMostOne, ExactlyOne}
 use Rattle.distr.specs.declared.error_distribution.ErrorDistribution.the-variants.{CenteredBinomial, Gaussian as ErrorGaussian}
+use Rattle.distr.specs.Constants.{cbdCoefficients}
 use Rattle.distr.specs.Packed.{minusOne}
 use Rattle.distr.specs.Thresholds.{threshold, nonzeroEnd}
 use Rattle.distr.specs.Gaussian.{support}
@@ -88,3 +89,7 @@ unfoldable pub inside : Distr → ℕ → List ℤ → Bool
 inside (secret d) n cs = insideSecret d n cs
 inside (error (ErrorGaussian deviation)) n cs = listOf n (within (support deviation)) cs
 inside (error (CenteredBinomial eta)) n cs = listOf n (within eta) cs
+
+-- 02 [3]: the 256 "centered coefficients" of a polynomial, each −eta..eta.
+abbrev pub insidePolynomial : ℕ → List ℤ → Bool
+insidePolynomial eta vs = listOf cbdCoefficients (within eta) vs

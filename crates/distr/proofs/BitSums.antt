@@ -1,32 +1,20 @@
--- The two sums of the centered binomial are counts of ones: of the low eta bits of a word, and of the eta bits above them.
-use mathlib.Core.Path.{_≡_, refl, sym, ap, _∙_}
-use mathlib.Core.List.{List, _∷_}
-use Prim.Native.Nat.{ℕ, zero, suc, _+_, _-_, _*_, _/_, _%_, _^_, _<_, _≤_}
-use native.Mathlib.Nat.{sub-zero, pow-zero, suc-sub-suc, div-one, mod-one, pow-suc, pow-succ', div-div-eq-div-mul, le-of-suc-le-suc, not-suc-le-zero}
+-- The two sums of the centered binomial are counts of ones: of the low eta bits of a number, and of the eta bits above them.
+use mathlib.Core.Path.{_≡_, refl, ap, _∙_}
+use mathlib.Core.Bool.{Bool, true, false}
+use mathlib.Core.List.{List}
+use Prim.Native.Nat.{ℕ, zero, suc, _+_, _-_, _*_, _/_, _%_, _^_, _<_, _≤_, zero-le}
+use native.Mathlib.Nat.{mod-one, pow-suc}
 use native.Mathlib.Omega.{arith}
+use borrow.Author.Tests.{ltb-true}
 use lib.ListN.{take, drop}
 use lib.Arith.{digits-div, digits-mod, mod-mul}
 use lib.Pow.{pow-pos}
-use lib.Dec.{lit<}
+use lib.Dec.{ltb, lit<}
 use lib.Count.{ones, ones-step}
+use lib.IntN.{pos, natAbs, subℕ, _-ℤ_}
 use Rattle.distr.specs.Packed.{digits}
-use Rattle.distr.specs.CenteredBinomial.{total, firstSum, secondSum}
-
--- the first k of m digits
-pub take-digits : (base m k x : ℕ) → k ≤ m → take k (digits base m x) ≡ digits base k x
-unfolding digits
-take-digits base m zero x h = refl
-take-digits base zero (suc k) x h = absurd (not-suc-le-zero h)
-take-digits base (suc m) (suc k) x h = ap (λ (l : List ℕ). x % base ∷ l) (take-digits base m k (x / base) (le-of-suc-le-suc h))
-
--- the digits from the k-th on
-pub drop-digits : (base m k x : ℕ) → k ≤ m → drop k (digits base m x) ≡ digits base (m - k) (x / base ^ k)
-unfolding digits
-drop-digits base m zero x h = rw (sub-zero, pow-zero) (ap (λ (y : ℕ). digits base m y) (sym (div-one x)))
-drop-digits base zero (suc k) x h = absurd (not-suc-le-zero h)
-drop-digits base (suc m) (suc k) x h =
-    drop-digits base m k (x / base) (le-of-suc-le-suc h)
-    ∙ rw suc-sub-suc (ap (λ (y : ℕ). digits base (m - k) y) (div-div-eq-div-mul x base (base ^ k) ∙ ap (λ (y : ℕ). x / y) (sym (pow-succ' base k))))
+use Rattle.distr.specs.CenteredBinomial.{total}
+use Rattle.distr.proofs.Digits.{take-digits, drop-digits}
 
 -- the sum of the k lowest bits
 pub total-bits : (k x : ℕ) → total (digits 2 k x) ≡ ones (x % 2 ^ k)
@@ -43,10 +31,30 @@ total-bits (suc k) x =
     low-bit = rw pow-suc (mod-mul x {m = 2 ^ k} {c = 2} (pow-pos k) (lit< tt))
 
 -- x, the ones of the low eta bits; y, the ones of the eta bits above them
-pub first-ones : (eta w : ℕ) → eta ≤ 64 → firstSum eta w ≡ ones (w % 2 ^ eta)
-first-ones eta w h = ap total (take-digits 2 64 eta w h) ∙ total-bits eta w
+pub first-ones : (width eta w : ℕ) → eta ≤ width → total (take eta (digits 2 width w)) ≡ ones (w % 2 ^ eta)
+first-ones width eta w h = ap total (take-digits 2 width eta w h) ∙ total-bits eta w
 
-pub second-ones : (eta w : ℕ) → 2 * eta ≤ 64 → secondSum eta w ≡ ones (w / 2 ^ eta % 2 ^ eta)
-second-ones eta w h =
-    ap (λ (l : List ℕ). total (take eta l)) (drop-digits 2 64 eta w (omega arith))
-    ∙ ap total (take-digits 2 (64 - eta) eta (w / 2 ^ eta) (omega arith)) ∙ total-bits eta (w / 2 ^ eta)
+pub second-ones : (width eta w : ℕ) → 2 * eta ≤ width → total (take eta (drop eta (digits 2 width w))) ≡ ones (w / 2 ^ eta % 2 ^ eta)
+second-ones width eta w h =
+    ap (λ (l : List ℕ). total (take eta l)) (drop-digits 2 width eta w (omega arith))
+    ∙ ap total (take-digits 2 (width - eta) eta (w / 2 ^ eta) (omega arith)) ∙ total-bits eta (w / 2 ^ eta)
+
+-- k bits at any place have a sum of at most k
+pub total-at-most : (m j k x : ℕ) → total (take k (drop j (digits 2 m x))) ≤ k
+unfolding digits total
+total-at-most zero zero zero x = zero-le
+total-at-most zero zero (suc k) x = zero-le
+total-at-most zero (suc j) zero x = zero-le
+total-at-most zero (suc j) (suc k) x = zero-le
+total-at-most (suc m) zero zero x = zero-le
+total-at-most (suc m) zero (suc k) x = omega (arith, total-at-most m zero k (x / 2))
+total-at-most (suc m) (suc j) k x = total-at-most m j k (x / 2)
+
+-- so the magnitude of the difference of two such sums is at most k
+pub difference-at-most : {most : ℕ} (x y : ℕ) → x ≤ most → y ≤ most → natAbs (pos x -ℤ pos y) ≤ most
+difference-at-most x zero h k = omega arith
+difference-at-most {most} x (suc y) h k = go (ltb x (suc y)) refl
+  where
+    go : (b : Bool) → ltb x (suc y) ≡ b → natAbs (subℕ x (suc y)) ≤ most
+    go true e = rw e (omega (arith, ltb-true x (suc y) e))
+    go false e = rw e (omega arith)

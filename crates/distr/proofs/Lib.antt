@@ -2,6 +2,9 @@ pub mod MarkedCases
 pub mod Reading
 pub mod Skipping
 pub mod Writing
+pub mod Tabulating
+pub mod Differences
+pub mod Digits
 pub mod Drawing
 pub mod BitSums
 pub mod Rising

@@ -85,6 +85,14 @@ countsLengthMismatch = 25
 abbrev pub residueNotCanonical : ℕ
 residueNotCanonical = 26
 
+-- 02 [3]: "It refuses with 27 an eta other than 2 and 3."
+abbrev pub invalidCbdEta : ℕ
+invalidCbdEta = 27
+
+-- 02 [3]: "Then with 28 a byte length other than 64 × eta or an output length other than 256."
+abbrev pub invalidCbdLength : ℕ
+invalidCbdLength = 28
+
 -- ---- limits
 
 -- The f64 nearest to a fraction, as the compiler reads a literal: 0.7 is `literal 7 10`.
@@ -128,3 +136,10 @@ sheetWords = 8192
 -- 02 [2]: "A modulus of 1 to 2^53."
 abbrev pub reportModulusLimit : ℕ
 reportModulusLimit = 2 ^ 53
+
+-- 02 [3]: "256 coefficients modulo 3329", the standard's n and q.
+abbrev pub cbdCoefficients : ℕ
+cbdCoefficients = 256
+
+abbrev pub cbdModulus : ℕ
+cbdModulus = 3329

@@ -16,5 +16,6 @@ pub mod Distribution
 pub mod Encoding
 pub mod Making
 pub mod Numbers
+pub mod SamplePolyCbd
 pub mod Draw
 pub mod Marked

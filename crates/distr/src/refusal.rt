@@ -39,3 +39,8 @@ pub const MODULUS_OUT_OF_RANGE: u32 = 24;
 pub const COUNTS_LENGTH_MISMATCH: u32 = 25;
 
 pub const RESIDUE_NOT_CANONICAL: u32 = 26;
+
+// The byte form of FIPS 203 of 02 [3].
+pub const INVALID_CBD_ETA: u32 = 27;
+
+pub const INVALID_CBD_LENGTH: u32 = 28;

@@ -1,19 +1,17 @@
 -- No coefficient of a Gaussian or of a centered binomial is above the largest magnitude of its distribution.
-use mathlib.Core.Path.{_≡_, refl}
+use mathlib.Core.Path.{_≡_}
 use mathlib.Core.Bool.{Bool, true, false, not, cond, _&&_, _||_}
 use mathlib.Core.List.{List}
-use Prim.Native.Nat.{ℕ, zero, suc, _+_, _-_, _/_, _%_, _<_, _≤_, zero-le}
+use Prim.Native.Nat.{ℕ, zero, suc, _+_, _-_, _%_, _<_, _≤_, zero-le}
 use native.Mathlib.Nat.{le-refl, le-step}
 use native.Mathlib.Omega.{arith}
-use borrow.Author.Tests.{ltb-true}
-use lib.Dec.{T, ltb, leb, eqb}
-use lib.ListN.{length, getD, take, drop}
-use lib.IntN.{ℤ, pos, natAbs, subℕ, _-ℤ_}
+use lib.Dec.{T, leb, eqb}
+use lib.ListN.{length, getD}
+use lib.IntN.{ℤ, pos, natAbs}
 use lib.Ieee.{Float}
 use Rattle.distr.specs.Words.{Read, got, coin}
 use Rattle.distr.specs.Rule.{readBy}
-use Rattle.distr.specs.Packed.{digits}
-use Rattle.distr.specs.CenteredBinomial.{total, firstSum, secondSum, binomialValue, centeredBinomial}
+use Rattle.distr.specs.CenteredBinomial.{firstSum, secondSum, binomialValue, centeredBinomial}
 use Rattle.distr.specs.Constants.{cumulativeLimit}
 use Rattle.distr.specs.Gaussian.{rising, cumulativeTable, magnitude, withSign, cumulativeValue, cumulative}
 use Rattle.distr.specs.Layered.{Layers, layerCount, heightList, curveList, layerTables, judge, Tried, kept, rejected, try, orElse, tries, layeredOne, layered}
@@ -21,6 +19,7 @@ use Rattle.distr.specs.Distribution.{Tables, gaussianRead}
 use Rattle.distr.specs.Making.{refuse}
 use Rattle.distr.specs.Numbers.{gaussianTable}
 use Rattle.distr.proofs.Reading.{and-left, and-right}
+use Rattle.distr.proofs.BitSums.{total-at-most, difference-at-most}
 use Rattle.distr.proofs.Rising.{rises, Rising, is-rising}
 use Rattle.draw_laws.proofs.Every.{Every, every-at, every-map}
 use Rattle.draw_laws.proofs.Readings.{Reads, value, nothing, value-read, reads-any, reads-all, reads-bind, reads-rule, reads-many, reads-choose}
@@ -57,25 +56,6 @@ cumulative-within M bounds n ws =
     (every-map (cumulativeValue M bounds) (λ w. signed-at-most (eqb (w % 2) 1) (magnitude bounds M w) (magnitude-at-most bounds M w))) ws)
 
 -- ---- by the bits of a word
-
--- k bits at any place have a sum of at most k
-total-at-most : (m j k x : ℕ) → total (take k (drop j (digits 2 m x))) ≤ k
-unfolding digits total
-total-at-most zero zero zero x = zero-le
-total-at-most zero zero (suc k) x = zero-le
-total-at-most zero (suc j) zero x = zero-le
-total-at-most zero (suc j) (suc k) x = zero-le
-total-at-most (suc m) zero zero x = zero-le
-total-at-most (suc m) zero (suc k) x = omega (arith, total-at-most m zero k (x / 2))
-total-at-most (suc m) (suc j) k x = total-at-most m j k (x / 2)
-
-difference-at-most : {most : ℕ} (x y : ℕ) → x ≤ most → y ≤ most → natAbs (pos x -ℤ pos y) ≤ most
-difference-at-most x zero h k = omega arith
-difference-at-most {most} x (suc y) h k = go (ltb x (suc y)) refl
-  where
-    go : (b : Bool) → ltb x (suc y) ≡ b → natAbs (subℕ x (suc y)) ≤ most
-    go true e = rw e (omega (arith, ltb-true x (suc y) e))
-    go false e = rw e (omega arith)
 
 pub binomial-within : (eta n : ℕ) (ws : List ℕ) (cs : List ℤ) (rest : List ℕ) → readBy (centeredBinomial eta n) ws ≡ got cs rest → Within eta cs
 binomial-within eta n ws =

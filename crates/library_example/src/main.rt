@@ -1,5 +1,5 @@
 // The library by example, through `primus_distr` alone. A line is a name, the number, the place after the draw and what the output holds, and of a
-// report the number, the sums and the counts; the file `stdout` is worked out by hand from documents 01 and 02. Every output is 9 throughout before its draw, so what a refusal leaves is seen.
+// report the number, the sums and the counts, and of a polynomial the number and four coefficients; the file `stdout` is worked out by hand from documents 01 and 02. Every output is 9 throughout before its draw, so what a refusal leaves is seen.
 mod print;
 mod refusals;
 
@@ -15,6 +15,7 @@ use primus_distr::crt_row;
 use primus_distr::crt_row_range;
 use primus_distr::residue_report;
 use primus_distr::residues;
+use primus_distr::sample_poly_cbd;
 use primus_distr::signed;
 
 // A sampler is made once and draws any number of keys, each from the place where the last one ended. The two-bit groups of the word 0xE4
@@ -118,6 +119,15 @@ fn reports() {
     print::report_line(b"5 over 5", refused, &counts);
 }
 
+// A polynomial of ML-KEM from 128 bytes, of which its first and its last two coefficients are shown. With eta 2 each half of a byte is a coefficient, the low half
+// first: 0xc7 has the halves 7 and 12, whose bits 1 1 1 0 and 0 0 1 1 give 2 - 1 and 0 - 2, so 1 and 3327. An eta other than 2 and 3 is refused by 27, and then
+// the bytes of another eta by 28.
+fn polynomial(name: &[u8], eta: u32) {
+    let mut f = [9u64; 256];
+    let number = sample_poly_cbd(&mut f, eta, &[0xc7; 128]);
+    print::polynomial_line(name, number, &[f[0], f[1], f[254], f[255]]);
+}
+
 fn main() {
     keys();
     errors();
@@ -127,6 +137,9 @@ fn main() {
     at_once();
     skipped();
     reports();
+    polynomial(b"128 bytes with eta 2", 2);
+    polynomial(b"128 bytes with eta 3", 3);
+    polynomial(b"128 bytes with eta 4", 4);
     refusals::states();
     refusals::inputs();
 }

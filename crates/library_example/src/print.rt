@@ -85,3 +85,11 @@ pub(crate) fn report_line(name: &[u8], report: Report, counts: &[u64]) {
     unsigned(report.squares_low);
     rest(counts);
 }
+
+// A line of a polynomial: its number and some coefficients.
+pub(crate) fn polynomial_line(name: &[u8], number: u32, coefficients: &[u64]) {
+    io::write_all(STDOUT_FILENO, name);
+    io::write_all(STDOUT_FILENO, b": ");
+    io::print_decimal(STDOUT_FILENO, number as u64);
+    rest(coefficients);
+}

@@ -10,10 +10,10 @@ use lib.ListN.{length, getD, take, drop, length-append, length-drop, length-map}
 use lib.Seq.{paste, length-paste, take-append-add, drop-append-add, take-append-le, take-take, take-add}
 use lib.Seq.{drop-drop, take-at, drop-at, drop-cons, getD-drop, length-take-le, drop-length, take-nil, drop-nil}
 use Rattle.distr.specs.Packed.{digits, split}
+use Rattle.distr.proofs.Digits.{length-digits}
 use Rattle.distr.proofs.Writing.{written, map-append, map-take, map-drop}
 use Rattle.packed.specs.Pairs.{digitValue}
 use Rattle.packed.specs.Cutting.{Cut}
-use Rattle.packed.proofs.Storing.{length-digits}
 
 module _ (base each : ℕ) where
   pub length-split : (ws : List ℕ) → length (split base each ws) ≡ length ws * each

@@ -1,20 +1,16 @@
 -- Storing the digits of a number, one or two at a time: after k the output has the values of its k lowest digits from a place on.
 use mathlib.Core.Path.{_≡_, refl, sym, ap, ap₂, _∙_}
 use mathlib.Core.List.{List, _∷_, map}
-use Prim.Native.Nat.{ℕ, zero, suc, _+_, _-_, _*_, _/_, _%_, _^_, _<_, _≤_}
+use Prim.Native.Nat.{ℕ, suc, _+_, _-_, _*_, _/_, _%_, _^_, _<_, _≤_}
 use native.Mathlib.Nat.{sub-zero, mod-lt, mod-eq-of-lt, mul-pos, mul-le-mul, div-div-eq-div-mul, le-antisymm}
 use native.Mathlib.Numerals.{add-one}
 use native.Mathlib.Omega.{arith}
 use lib.ListN.{length, getD, take, drop, set, length-map, List·getD-map}
 use lib.Seq.{drop-cons, take-set-le, paste, paste-zero, paste-suc, length-paste}
 use Rattle.distr.specs.Packed.{digits}
+use Rattle.distr.proofs.Digits.{length-digits}
 use Rattle.packed.specs.Pairs.{digitValue, Paired, pairSet}
 use Rattle.packed.proofs.Pairing.{low-digit, high-digit}
-
-pub length-digits : (base count x : ℕ) → length (digits base count x) ≡ count
-unfolding digits
-length-digits base zero x = refl
-length-digits base (suc count) x = ap suc (length-digits base count (x / base))
 
 -- x has the digits of w but the k lowest
 abbrev pub Left : ℕ → ℕ → ℕ → ℕ → ℕ → Type 0
