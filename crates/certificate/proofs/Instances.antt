@@ -1,9 +1,11 @@
--- The claims speak of something: requests that 01 accepts, lists inside a distribution, words that carry a draw list.
+-- The claims speak of something: requests that 01 accepts, lists inside a distribution, words that carry a draw list, byte strings.
 use mathlib.Core.Path.{_≡_, refl}
 use mathlib.Core.Bool.{true}
-use mathlib.Core.List.{[], _∷_}
+use mathlib.Core.Logic.{inl, inr}
+use mathlib.Core.List.{List, [], _∷_}
 use Prim.Native.Nat.{ℕ, _-_, _^_}
 use lib.Dec.{lit≤}
+use lib.ListN.{replicate}
 use lib.IntN.{pos}
 use lib.Ieee.{round, mul, lt}
 use Rattle.distr.specs.declared.secret_key_distr.SecretKeyDistr.{SecretKeyDistr}
@@ -17,9 +19,11 @@ use Rattle.distr.specs.Distribution.{secret, Tables, onDeviation}
 use Rattle.distr.specs.Making.{makingNumber, secretNumber}
 use Rattle.distr.specs.Numbers.{firstOf, lengthNumber, tableNumber}
 use Rattle.counts.specs.Inside.{tally, every, insideSecret, inside}
-use Rattle.counts.specs.DrawLists.{Carries}
+use Rattle.counts.specs.Formula.{productOf, binomial}
+use Rattle.counts.specs.DrawLists.{Carries, Exactly}
 use Rattle.secret_key_sampler.specs.declared.SecretKeySampler.{SecretKeySampler}
 use Rattle.secret_key_sampler.specs.Sampler.{isMade, making}
+use Rattle.certificate.specs.Polynomials.{ReachesPolynomial}
 use Rattle.certificate.specs.Certificate.{Accepted, Demand3}
 use Rattle.certificate.proofs.Certificate.{certificate}
 
@@ -53,3 +57,17 @@ inside-composition = refl
 carried : Carries (fixedComposition 1 1 4) (0 ∷ 0 ∷ []) 0 (0 ∷ 0 ∷ []) []
 unfolding mapRead bindRead choose chooseEach areWords countUp
 carried = record { are-words = tt; good-place = lit≤ tt; reads = refl }
+
+-- with eta 2 the polynomial of 0s alone is reached by C(4, 2) byte strings for each coefficient, that of 2s alone by the one string of bytes 0x33, and
+-- with eta 3 that of −1s by C(6, 2) for each
+zeros : Exactly (List ℕ) (6 ^ 256) (ReachesPolynomial 2 (replicate 256 0))
+unfolding every productOf binomial
+zeros = certificate .polynomials 2 (inl refl) .exactly (replicate 256 (pos 0)) tt
+
+twos : Exactly (List ℕ) 1 (ReachesPolynomial 2 (replicate 256 2))
+unfolding every productOf binomial
+twos = certificate .polynomials 2 (inl refl) .exactly (replicate 256 (pos 2)) tt
+
+minus-ones : Exactly (List ℕ) (15 ^ 256) (ReachesPolynomial 3 (replicate 256 3328))
+unfolding every productOf binomial
+minus-ones = certificate .polynomials 3 (inr refl) .exactly (replicate 256 minusOne) tt

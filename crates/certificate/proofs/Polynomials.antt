@@ -1,13 +1,12 @@
 -- The count of byte strings, for the calls that keep the contract.
 use Prim.Native.Nat.{ℕ, _*_, _<_}
-use mathlib.Core.Path.{_≡_, refl, sym, ap, _∙_}
+use mathlib.Core.Path.{_≡_, sym, ap, _∙_}
 use mathlib.Core.Logic.{_⊎_, inl, inr, ⊎-elim}
 use mathlib.Core.List.{List, map}
 use native.Mathlib.Omega.{arith}
 use borrow.Author.Tests.{eq-eqb, ne-eqb}
 use lib.Dec.{T}
 use lib.ListN.{length, replicate, length-replicate}
-use lib.IntN.{ℤ}
 use Rattle.distr.specs.Constants.{cbdCoefficients, cbdModulus}
 use Rattle.distr.specs.Encoding.{encode}
 use Rattle.distr.specs.Numbers.{firstOf}
@@ -16,7 +15,7 @@ use Rattle.counts.specs.DrawLists.{byteString}
 use Rattle.counts.proofs.Exact.{exactly-as, exactly-none}
 use Rattle.counts.proofs.Packed.{box-length}
 use Rattle.counts.proofs.Polynomials.{polynomials-exactly, polynomials-inside}
-use Rattle.certificate.specs.Polynomials.{MeetsCbd, ReachesPolynomial, PolynomialsCounted}
+use Rattle.certificate.specs.Polynomials.{ReachesPolynomial, PolynomialsCounted}
 
 -- a call that is not refused
 drawn : (eta : ℕ) (B out : List ℕ) → (eta ≡ 2) ⊎ (eta ≡ 3) → length B ≡ 64 * eta → length out ≡ cbdCoefficients

@@ -1,6 +1,6 @@
 -- Demand 3, whole: the record `Certificate` below is the claim, and the term `certificate` of proofs/Certificate is its proof. What it counts stands in
 -- the specs of `counts`: draw lists, which coefficient lists are inside a distribution, the formula. The rules stand in the specs of `distr`, and what the
--- contracts of the code promise stands in Contracts.
+-- contracts of the code promise stands in Contracts. The count of 02 [3], of byte strings, is a claim of the same record; it stands in Polynomials.
 use Prim.Native.Nat.{ℕ, _/_, _^_, _≤_, _<_}
 use mathlib.Core.Path.{_≡_}
 use mathlib.Core.Logic.{_⊎_}

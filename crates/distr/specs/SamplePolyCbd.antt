@@ -1,7 +1,7 @@
 -- 02 [3]: "Algorithm 8, SamplePolyCBD, for eta 2 and 3: 64 × eta bytes give 256 coefficients modulo 3329, bits taken lowest first within each byte."
 -- From FIPS 203, section 4.2.2, in its order and by its indices: B is the byte array, b its bits, f the polynomial.
 use Prim.Native.Nat.{ℕ, zero, suc, _+_, _*_, _-_, _/_, _%_, _^_}
-use mathlib.Core.Bool.{Bool, not, cond, _||_}
+use mathlib.Core.Bool.{not, cond, _||_}
 use mathlib.Core.List.{List, [], _∷_, _++_}
 use lib.Dec.{eqb}
 use lib.ListN.{length, getD}
