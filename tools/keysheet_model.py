@@ -25,9 +25,9 @@ class Refused(Exception):
 class Words:
     """A lent list of 32-bit words and the place in it, with the words that choices passed over and the bytes that were rejected."""
 
-    def __init__(self, words):
+    def __init__(self, words, place=0):
         self.words = words
-        self.place = 0
+        self.place = place
         self.skipped_words = 0
         self.skipped_bytes = 0
 
@@ -150,11 +150,14 @@ def centered_binomial(words, n, eta):
 
 
 def draw(kind, n, a, b, modulus, words):
-    """The coefficients of a sheet's request, or Refused: the numbers of making, then those of the draw in their order."""
+    """The coefficients of a request with one of the nine kinds, or Refused: the numbers of making, then those of the draw in their order. (A sheet
+    draws from place 0, which is never past the end.)"""
     if kind in (5, 6) and a == 0:
         raise Refused(5)
     if kind == 9 and not 1 <= a <= 32:
         raise Refused(4)
+    if words.place > len(words.words):
+        raise Refused(22)
     if n > OUTPUT_LIMIT:
         raise Refused(6)
     if kind in (4, 7) and a > n or kind == 8 and a + b > n:

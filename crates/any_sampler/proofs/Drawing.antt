@@ -21,7 +21,7 @@ use Rattle.any_sampler.specs.Either.{anyOf, preparingAny, anyAtOnce, any
 
 module _ (tables : Tables) (words : List ℕ) (place : ℕ) {p : PreparedMethod} where
   -- each kind draws and reports as it does at once; where there is no distribution, 14 is answered and nothing reported
-  by-either : {A : Type 0} {r : Answer} {after : List A} (x : AnyDistr) → p ≡ preparingAny x → (out : List A) (draw : SamplingMethod → Outcome A)
+  pub by-either : {A : Type 0} {r : Answer} {after : List A} (x : AnyDistr) → p ≡ preparingAny x → (out : List A) (draw : SamplingMethod → Outcome A)
       (drawn : Distr → Outcome A) (skips : SamplingMethod → Skipped) (counted : Distr → Skipped)
       → ((d : Distr) → p ≡ preparing d
       → Answered r after (preparedDraw p place out draw) (skips (p .method)) → Answered r after (atOnce d place out (drawn d)) (counted d))

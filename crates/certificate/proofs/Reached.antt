@@ -1,12 +1,12 @@
 -- Demand 3 for a request, from the count of its draw lists and the predicate that the contracts of the signed draws cite.
 use mathlib.Core.Path.{_≡_, refl, sym, ap, subst, _∙_}
 use mathlib.Core.Logic.{_⊎_, inl, inr, ⊎-elim}
-use mathlib.Core.Bool.{Bool, true, false, not, cond, _||_}
+use mathlib.Core.Bool.{Bool, true, false, not, cond}
 use mathlib.Core.List.{List, [], _∷_, _++_}
-use Prim.Native.Nat.{ℕ, zero, suc, _+_, _-_, _%_, _^_, _≤_, _<_}
+use Prim.Native.Nat.{ℕ, zero, suc, _+_, _-_, _≤_, _<_}
 use native.Mathlib.Omega.{arith}
 use borrow.Author.Tests.{le-ltb}
-use lib.Dec.{T, leb, ltb, eqb, eqb·suc-zero}
+use lib.Dec.{T, leb, ltb, eqb·suc-zero}
 use lib.ListN.{length, drop, replicate, length-replicate}
 use lib.IntN.{ℤ, pos}
 use lib.Ieee.{Float}
@@ -16,11 +16,11 @@ use Rattle.distr.specs.Words.{Read, got, short, mapRead}
 use Rattle.distr.specs.Rule.{Rule, readBy}
 use Rattle.distr.specs.Constants.{cumulativeLimit}
 use Rattle.distr.specs.Gaussian.{support, cumulativeTable, cumulative}
-use Rattle.distr.specs.Layered.{layerTables}
 use Rattle.distr.specs.Distribution.{Distr, secret, error, Tables, onDeviation, isLayered, gaussianRead, coefficients, rule, secretRule, errorRule}
 use Rattle.distr.specs.Making.{refuse, makingNumber}
-use Rattle.distr.specs.Numbers.{firstOf, tooLong, badWeight, lengthNumber, gaussianTable, tableNumber, stateNumbers, signedNumbers}
+use Rattle.distr.specs.Numbers.{firstOf, tooLong, lengthNumber, gaussianTable, tableNumber, stateNumbers, signedNumbers}
 use Rattle.distr.specs.Draw.{Outcome, settled, judged, signedDraw, noTables}
+use Rattle.draw_laws.proofs.Small.{signed-below}
 use Rattle.counts.specs.DrawLists.{Carries}
 use Rattle.counts.specs.Inside.{inside}
 use Rattle.counts.specs.Formula.{formula}
@@ -97,64 +97,6 @@ same-numbers d bounds tables n t e =
 
 -- ---- accepted by every call that meets the contract: neither its length nor its table is refused
 
--- none of the numbers that a request's length or table gives is 22 or more
-refuse-small : (b : Bool) (k : ℕ) → k < 22 → refuse b k < 22
-refuse-small true k h = h
-refuse-small false k h = omega arith
-
-weight-small : (h n : ℕ) → badWeight h n < 22
-weight-small h n = refuse-small (ltb n h || ltb (2 ^ 64 - 1) h) 7 (omega arith)
-
-length-small : (d : Distr) (n : ℕ) → lengthNumber d n < 22
-unfolding lengthNumber
-length-small (secret UniformBinary) n = omega arith
-length-small (secret (Binary p)) n = omega arith
-length-small (secret SparseTernary) n = omega arith
-length-small (secret UniformTernary) n = omega arith
-length-small (secret (Ternary minus plus)) n = omega arith
-length-small (secret (FixedHammingWeightBinary h)) n = weight-small h n
-length-small (secret (BlockBinary size occupancy)) n = refuse-small (eqb n 0 || not (eqb (n % size) 0)) 8 (omega arith)
-length-small (secret (FixedHammingWeightTernary h)) n = weight-small h n
-length-small (secret (FixedCompositionTernary minus ones)) n = weight-small (minus + ones) n
-length-small (secret (Gaussian deviation)) n = omega arith
-length-small (error d) n = omega arith
-
-cond-small : (b : Bool) (x y : ℕ) → x < 22 → y < 22 → cond b x y < 22
-cond-small true x y h k = h
-cond-small false x y h k = k
-
-gaussian-small : (M : ℕ) (tables : Tables) → gaussianTable M tables < 22
-gaussian-small M tables =
-    cond-small (leb M cumulativeLimit) _ _
-    (refuse-small (not (cumulativeTable M (tables .bounds))) 12 (omega arith))
-    (refuse-small (not (layerTables M (tables .layers))) 13 (omega arith))
-
-table-small : (d : Distr) (tables : Tables) → tableNumber d tables < 22
-unfolding tableNumber onDeviation
-table-small (secret UniformBinary) tables = omega arith
-table-small (secret (Binary p)) tables = omega arith
-table-small (secret SparseTernary) tables = omega arith
-table-small (secret UniformTernary) tables = omega arith
-table-small (secret (Ternary minus plus)) tables = omega arith
-table-small (secret (FixedHammingWeightBinary h)) tables = omega arith
-table-small (secret (BlockBinary size occupancy)) tables = omega arith
-table-small (secret (FixedHammingWeightTernary h)) tables = omega arith
-table-small (secret (FixedCompositionTernary minus ones)) tables = omega arith
-table-small (secret (Gaussian deviation)) tables = gaussian-small (support deviation) tables
-table-small (error (ErrorGaussian deviation)) tables = gaussian-small (support deviation) tables
-table-small (error (CenteredBinomial eta)) tables = omega arith
-
-first-small : (k : ℕ) (ns : List ℕ) → k < 22 → firstOf ns < 22 → firstOf (k ∷ ns) < 22
-unfolding firstOf
-first-small zero ns h i = i
-first-small (suc k) ns h i = h
-
-signed-small : (d : Distr) (tables : Tables) (n : ℕ) → firstOf (signedNumbers d tables n) < 22
-unfolding firstOf
-signed-small d tables n =
-    first-small (tooLong n) (lengthNumber d n ∷ tableNumber d tables ∷ []) (refuse-small (ltb 65536 n) 6 (omega arith))
-    (first-small (lengthNumber d n) (tableNumber d tables ∷ []) (length-small d n) (first-small (tableNumber d tables) [] (table-small d tables) (omega arith)))
-
 -- the answer of a call on no words at all, whatever else refuses it
 refused : (k : ℕ) (place : ℕ) (out : List ℤ) (given : Outcome ℤ) → 0 < k → judged k place out given .number ≡ k
 unfolding judged
@@ -174,7 +116,7 @@ numbers-of made d tables n = firstOf (stateNumbers made 0 0 ++ signedNumbers d t
 
 numbers-small : (made : Bool) (d : Distr) (tables : Tables) (n : ℕ) → numbers-of made d tables n < 22
 unfolding numbers-of firstOf
-numbers-small true d tables n = signed-small d tables n
+numbers-small true d tables n = signed-below d tables n
 numbers-small false d tables n = omega arith
 
 numbers-zero : (made : Bool) (d : Distr) (tables : Tables) (n : ℕ) → numbers-of made d tables n ≡ 0 → T made × (firstOf (signedNumbers d tables n) ≡ 0)

@@ -13,6 +13,7 @@ use Rattle.distr.specs.declared.answer.Answer.{Answer}
 use Rattle.distr.specs.declared.secret_key_distr.SecretKeyDistr.{SecretKeyDistr}
 use Rattle.distr.specs.declared.secret_key_distr.SecretKeyDistr.the-variants.{FixedCompositionTernary}
 use Rattle.distr.specs.declared.error_distribution.ErrorDistribution.{ErrorDistribution}
+use Rattle.distr.specs.Contract.{Contract}
 use Rattle.distr.specs.Words.{got, choose}
 use Rattle.distr.specs.Distribution.{Distr, secret, error, Tables, onDeviation, isLayered, rule}
 use Rattle.distr.specs.Making.{makingNumber}
@@ -33,7 +34,7 @@ use Rattle.error_sampler.specs.Sampler.{isMade as isMadeError, making as making
 use Rattle.error_sampler.proofs.ErrorSampler.try_new.Reads as error-try-new
 use Rattle.error_sampler.proofs.ErrorSampler.sample_signed_to.Reads as error-sample-signed-to
 use Rattle.certificate.specs.Polynomials.{PolynomialsCounted}
-use Rattle.certificate.specs.Contracts.{Contract, SignedArguments, SignedCall, ChoiceArguments, BoundedChoice, CbdArguments, CbdCall}
+use Rattle.certificate.specs.Contracts.{SignedArguments, SignedCall, ChoiceArguments, BoundedChoice, CbdArguments, CbdCall}
 
 -- ---- a request and its calls
 

@@ -4,7 +4,6 @@ use mathlib.Core.Path.{_≡_}
 use mathlib.Core.Bool.{Bool}
 use mathlib.Core.List.{List}
 use denote.Ref.{RefT, now}
-use contract.Lifetimes.{Lfts}
 use lib.ListN.{length, drop}
 use lib.IntN.{ℤ}
 use lib.Ieee.{Float}
@@ -18,13 +17,6 @@ use Rattle.words.specs.declared.Taken.{Taken}
 use Rattle.words.specs.Reading.{taken}
 use Rattle.signed_discrete_gaussian.specs.Lent.{lent}
 use Rattle.certificate.specs.Polynomials.{MeetsCbd}
-
--- What the checker reads off a function's contract: `Pre` is what it asks of the arguments, and here that is nothing; `Post` is what it promises of the
--- arguments, the answer and the arguments at exit, and that is `Promise`.
-abbrev pub Contract : (m : ℕ) (A R : Type 0) → (A → R → A → Type 0) → (Lfts m → A → Type 0) → (Lfts m → A → R → A → Type 0) → Type 1
-Contract m A R Promise Pre Post =
-    ((κs : Lfts m) (before : A) → Pre κs before ≡ Unit {0})
-    × ((κs : Lfts m) (before : A) (answer : R) (after : A) → Post κs before answer after ≡ Promise before answer after)
 
 -- The arguments of a `sample_signed_to`: self, output, bounds, endpoints, heights, curve, words, place.
 abbrev pub SignedArguments : Type 0 → Type 0

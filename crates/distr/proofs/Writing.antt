@@ -5,7 +5,7 @@ use Prim.Native.Nat.{ℕ, zero, suc, _+_, _<_, _≤_}
 use native.Mathlib.Numerals.{add-one}
 use native.Mathlib.Omega.{arith}
 use lib.ListN.{length, getD, take, drop, set, replicate, length-append, length-take, length-drop, length-replicate, getD-replicate}
-use lib.Seq.{drop-cons, set-at, length-take-le, append-snoc, take-suc, drop-length, take-all}
+use lib.Seq.{drop-cons, set-at, length-take-le, append-snoc, take-suc, drop-length, take-all, paste, take-at, drop-at, take-add, drop-drop}
 
 module _ {A : Type 0} where
   -- the first i elements of xs are written
@@ -83,3 +83,13 @@ pub take-replicate : {A : Type 0} (i n : ℕ) (a : A) → i ≤ n → take i (re
 take-replicate zero n a h = refl
 take-replicate (suc i) zero a h = absurd (omega arith)
 take-replicate (suc i) (suc n) a h = ap (λ (t : List _). a ∷ t) (take-replicate i n a (omega arith))
+
+-- what is pasted after the first p written elements is the next that were to be written
+pub written-paste : {A : Type 0} (xs out part : List A) (p count : ℕ) → p ≤ length xs → take count part ≡ take count (drop p xs)
+    → paste (written xs p out) p part count ≡ written xs (p + count) out
+written-paste {A} xs out part p count h e =
+    let d : List A = written xs p out in
+    let there : length (take p xs) ≡ p = length-take-le p xs h in
+    ap₂ (λ (a b : List A). a ++ b)
+    (ap₂ (λ (a b : List A). a ++ b) (take-at (take p xs) (drop p out) p there) e ∙ sym (take-add p count xs))
+    (sym (drop-drop count p d) ∙ ap (drop count) (drop-at (take p xs) (drop p out) p there) ∙ drop-drop count p out)

@@ -93,6 +93,11 @@ invalidCbdEta = 27
 abbrev pub invalidCbdLength : ℕ
 invalidCbdLength = 28
 
+-- 02 [4]: "It refuses with 29, before every other check, a desk request for more than 4,096 coefficients … or 8,192 words, or a byte slice that is no
+-- whole number of items."
+abbrev pub invalidDeskRequest : ℕ
+invalidDeskRequest = 29
+
 -- ---- limits
 
 -- The f64 nearest to a fraction, as the compiler reads a literal: 0.7 is `literal 7 10`.
@@ -143,3 +148,10 @@ cbdCoefficients = 256
 
 abbrev pub cbdModulus : ℕ
 cbdModulus = 3329
+
+-- 02 [4]: "The desk's screen shows at most 4,096 coefficients and its store holds 8,192 words."
+abbrev pub deskCoefficients : ℕ
+deskCoefficients = 4096
+
+abbrev pub deskWords : ℕ
+deskWords = 8192

@@ -1,7 +1,7 @@
 -- The whole answer of a draw: its number, the place after it and every element of the output.
 use Prim.Native.Nat.{ℕ, _-_}
 use mathlib.Core.Path.{_≡_}
-use mathlib.Core.Bool.{Bool, true, cond, _&&_}
+use mathlib.Core.Bool.{Bool, true, cond, _&&_, _||_}
 use mathlib.Core.List.{List, [], _∷_, _++_, map}
 use lib.Dec.{eqb}
 use lib.ListN.{length, drop, replicate}
@@ -36,6 +36,14 @@ settled write wordCount place n short = record { number = outOfWords; place = pl
 -- "All but 23 change neither place nor output."
 unfoldable pub judged : {A : Type 0} → ℕ → ℕ → List A → Outcome A → Outcome A
 judged number place out drawn = cond (eqb number 0) drawn (record { number = number; place = place; output = out })
+
+-- The numbers with which an output is written: 0, and 23.
+abbrev pub writes : ℕ → Bool
+writes number = eqb number 0 || eqb number outOfWords
+
+-- 02 [4]: an outcome in another output: there `hold` says what is written, and what stood there stays where nothing is written.
+abbrev pub heldOver : {A B : Type 0} → (List A → List B) → List B → Outcome A → Outcome B
+heldOver hold out o = record { number = o .number; place = o .place; output = cond (writes (o .number)) (hold (o .output)) out }
 
 -- A draw: the first number that refuses it, or what the rules give from the place on, n coefficients wanted.
 abbrev pub drawn : {A : Type 0} → (List ℤ → List A) → List ℕ → List ℕ → ℕ → List A → ℕ → (List ℕ → Read (List ℤ)) → Outcome A

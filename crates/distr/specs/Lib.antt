@@ -18,4 +18,5 @@ pub mod Making
 pub mod Numbers
 pub mod SamplePolyCbd
 pub mod Draw
+pub mod Contract
 pub mod Marked

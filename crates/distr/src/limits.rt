@@ -20,3 +20,8 @@ pub const MAX_SHEET_WORDS: u32 = 8192;
 
 // Largest modulus of a report over residues (02 [2]).
 pub const MAX_EXACT_F64_INTEGER: u64 = 0x20_0000_0000_0000;
+
+// Most coefficients and most words of a desk request (02 [4]).
+pub const MAX_DESK_COEFFICIENTS: usize = 4096;
+
+pub const MAX_DESK_WORDS: usize = 8192;

@@ -44,3 +44,6 @@ pub const RESIDUE_NOT_CANONICAL: u32 = 26;
 pub const INVALID_CBD_ETA: u32 = 27;
 
 pub const INVALID_CBD_LENGTH: u32 = 28;
+
+// The desk's entry of 02 [4].
+pub const INVALID_DESK_REQUEST: u32 = 29;

@@ -7,3 +7,5 @@ pub mod Crt
 pub mod Making
 pub mod Sampled
 pub mod Selecting
+pub mod Small
+pub mod Held

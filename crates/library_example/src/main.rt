@@ -13,6 +13,7 @@ use primus_distr::SignedDiscreteGaussian;
 use primus_distr::TernarySampler;
 use primus_distr::crt_row;
 use primus_distr::crt_row_range;
+use primus_distr::draw_question;
 use primus_distr::residue_report;
 use primus_distr::residues;
 use primus_distr::sample_poly_cbd;
@@ -128,6 +129,14 @@ fn polynomial(name: &[u8], eta: u32) {
     print::polynomial_line(name, number, &[f[0], f[1], f[254], f[255]]);
 }
 
+// A question by numbers, on the words 0 and 0xE4. Kind 2 is sparse ternary, so from place 1 it is 0 0 1 -1, and over 3329 the -1 is 3328. Kind 10 is none, which
+// gives 14, and place 3 is past the words: 22.
+fn question(name: &[u8], kind: u32, modulus: u32, place: usize) {
+    let mut output = [9i64; 4];
+    let answer = draw_question(kind, 0, 0, modulus, &mut output, &[0, 0xe4], place);
+    print::signed_line(name, answer, &output);
+}
+
 fn main() {
     keys();
     errors();
@@ -140,6 +149,10 @@ fn main() {
     polynomial(b"128 bytes with eta 2", 2);
     polynomial(b"128 bytes with eta 3", 3);
     polynomial(b"128 bytes with eta 4", 4);
+    question(b"kind 2", 2, 0, 1);
+    question(b"kind 2 over 3329", 2, 3329, 1);
+    question(b"kind 10", 10, 0, 1);
+    question(b"kind 2 from place 3", 2, 0, 3);
     refusals::states();
     refusals::inputs();
 }

@@ -29,12 +29,10 @@ fn signed(value: i64) {
         io::write_all(STDOUT_FILENO, b" -2");
     } else if value == -1 {
         io::write_all(STDOUT_FILENO, b" -1");
-    } else if value == 0 {
-        unsigned(0);
-    } else if value == 1 {
-        unsigned(1);
+    } else if 0 <= value {
+        unsigned(value as u64);
     } else {
-        unsigned(9);
+        io::write_all(STDOUT_FILENO, b" ?");
     }
 }
 

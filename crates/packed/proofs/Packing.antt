@@ -1,68 +1,23 @@
 -- Filling an output word by word: the digits of many words, one after the other, and the values of the first of them.
-use mathlib.Core.Path.{_≡_, refl, sym, ap, ap₂, _∙_}
-use mathlib.Core.List.{List, [], _∷_, _++_, map, append-nil}
-use Prim.Native.Nat.{ℕ, zero, suc, _+_, _-_, _*_, _/_, _^_, _<_, _≤_}
-use native.Mathlib.Nat.{zero-mul, suc-mul, add-comm, le-of-lt, le-of-eq, le-antisymm, mul-le-mul-right, lt-of-mul-lt-mul-right, div-le-self, div-mul-le-self, lt-div-mul-add}
+use mathlib.Core.Path.{_≡_, refl, sym, ap, _∙_}
+use mathlib.Core.List.{List, _++_, map, append-nil}
+use Prim.Native.Nat.{ℕ, suc, _+_, _-_, _*_, _/_, _^_, _<_, _≤_}
+use native.Mathlib.Nat.{zero-mul, suc-mul, le-of-lt, le-of-eq, le-antisymm, mul-le-mul-right, lt-of-mul-lt-mul-right, div-le-self, div-mul-le-self, lt-div-mul-add}
 use native.Mathlib.Omega.{arith}
 use mir.Syntax.{w64}
 use mir.Val.{Fits}
-use lib.ListN.{length, getD, take, drop, length-append, length-drop, length-map}
-use lib.Seq.{paste, length-paste, take-append-add, drop-append-add, take-append-le, take-take, take-add}
-use lib.Seq.{drop-drop, take-at, drop-at, drop-cons, getD-drop, length-take-le, drop-length, take-nil, drop-nil}
+use lib.ListN.{length, getD, take, drop, length-drop, length-map}
+use lib.Seq.{paste, length-paste, take-append-le, take-take}
+use lib.Seq.{drop-cons, getD-drop, length-take-le, drop-length}
 use Rattle.distr.specs.Packed.{digits, split}
-use Rattle.distr.proofs.Digits.{length-digits}
-use Rattle.distr.proofs.Writing.{written, map-append, map-take, map-drop}
+use Rattle.distr.proofs.Digits.{length-digits, length-split, drop-split, take-split}
+use Rattle.distr.proofs.Writing.{written, written-paste, map-append, map-take, map-drop}
 use Rattle.packed.specs.Pairs.{digitValue}
 use Rattle.packed.specs.Cutting.{Cut}
 
-module _ (base each : ℕ) where
-  pub length-split : (ws : List ℕ) → length (split base each ws) ≡ length ws * each
-  unfolding split
-  length-split [] = sym (zero-mul each)
-  length-split (w ∷ ws) =
-      length-append (digits base each w) (split base each ws)
-      ∙ ap₂ (λ (a b : ℕ). a + b) (length-digits base each w) (length-split ws)
-      ∙ add-comm each (length ws * each)
-      ∙ sym (suc-mul (length ws) each)
-
-  -- one word more: its digits stand in front
-  word-front : (ds : List ℕ) (m : ℕ) → length ds ≡ each → suc m * each ≡ length ds + m * each
-  word-front ds m e = suc-mul m each ∙ add-comm (m * each) each ∙ ap (λ (k : ℕ). k + m * each) (sym e)
-
-  -- whole words off the front, and whole words alone
-  pub drop-split : (i : ℕ) (ws : List ℕ) → drop (i * each) (split base each ws) ≡ split base each (drop i ws)
-  unfolding split
-  drop-split zero ws = ap (λ (k : ℕ). drop k (split base each ws)) (zero-mul each)
-  drop-split (suc i) [] = drop-nil (suc i * each)
-  drop-split (suc i) (w ∷ ws) =
-      let ds : List ℕ = digits base each w in
-      ap (λ (k : ℕ). drop k (ds ++ split base each ws)) (word-front ds i (length-digits base each w))
-      ∙ drop-append-add ds (split base each ws) (i * each)
-      ∙ drop-split i ws
-
-  pub take-split : (m : ℕ) (ws : List ℕ) → split base each (take m ws) ≡ take (m * each) (split base each ws)
-  unfolding split
-  take-split zero ws = sym (ap (λ (k : ℕ). take k (split base each ws)) (zero-mul each))
-  take-split (suc m) [] = sym (take-nil (suc m * each))
-  take-split (suc m) (w ∷ ws) =
-      let ds : List ℕ = digits base each w in
-      ap (λ (l : List ℕ). ds ++ l) (take-split m ws)
-      ∙ sym (take-append-add ds (split base each ws) (m * each))
-      ∙ ap (λ (k : ℕ). take k (ds ++ split base each ws)) (sym (word-front ds m (length-digits base each w)))
-
-  -- words past those that n digits need do not matter
-  pub enough : (m n : ℕ) (ws : List ℕ) → n ≤ m * each → take n (split base each (take m ws)) ≡ take n (split base each ws)
-  enough m n ws h = ap (take n) (take-split m ws) ∙ take-take n (m * each) (split base each ws) h
-
--- what is pasted after the first p written elements is the next that were to be written
-pub written-paste : {A : Type 0} (xs out part : List A) (p count : ℕ) → p ≤ length xs → take count part ≡ take count (drop p xs)
-    → paste (written xs p out) p part count ≡ written xs (p + count) out
-written-paste {A} xs out part p count h e =
-    let d : List A = written xs p out in
-    let there : length (take p xs) ≡ p = length-take-le p xs h in
-    ap₂ (λ (a b : List A). a ++ b)
-    (ap₂ (λ (a b : List A). a ++ b) (take-at (take p xs) (drop p out) p there) e ∙ sym (take-add p count xs))
-    (sym (drop-drop count p d) ∙ ap (drop count) (drop-at (take p xs) (drop p out) p there) ∙ drop-drop count p out)
+-- words past those that n digits need do not matter
+pub enough : (base each m n : ℕ) (ws : List ℕ) → n ≤ m * each → take n (split base each (take m ws)) ≡ take n (split base each ws)
+enough base each m n ws h = ap (take n) (take-split base each m ws) ∙ take-take n (m * each) (split base each ws) h
 
 module _ {A : Type 0} (base each : ℕ) (value : ℕ → A) (ws : List ℕ) where
   length-values : length (map value (split base each ws)) ≡ length ws * each

@@ -16,12 +16,12 @@ use Rattle.distr.specs.Words.{Read, got, short, mapRead}
 use Rattle.distr.specs.Packed.{digits, split}
 use Rattle.distr.specs.UniformTernary.{acceptedBytes, bytes, rejectedBytes}
 use Rattle.distr.proofs.Reading.{map-read-twice, map-read-same}
-use Rattle.distr.proofs.Digits.{length-digits}
+use Rattle.distr.proofs.Digits.{length-digits, length-split}
 use Rattle.distr.proofs.Writing.{map-append, map-take}
 use Rattle.packed.specs.declared.bytes.Ended.{Ended}
 use Rattle.packed.specs.Pairs.{digitValue, digitValues, Paired}
 use Rattle.packed.specs.Trits.{bytesWanted, bytesLooked, tritsFrom, BytesStored, Looked}
-use Rattle.packed.proofs.Packing.{from-front, length-split}
+use Rattle.packed.proofs.Packing.{from-front}
 use Rattle.packed.proofs.Rejecting.{accepted-append, lookedFrom, looked-words, looked-next, looked-none, looked-front}
 
 read-id : {A : Type 0} (r : Read A) → mapRead (λ a. a) r ≡ r

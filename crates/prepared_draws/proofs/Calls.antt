@@ -79,7 +79,7 @@ module _ (d : Distr) (tables : Tables) (words : List ℕ) (place : ℕ) {p : Pre
       let accepted : makingNumber d ≡ 0 = sym (ap (λ (x : PreparedMethod). x .number) e) ∙ z in
       ap (λ (x : PreparedMethod). x .method) e ∙ rw accepted
 
-  by-making : {A : Type 0} (out : List A) (draw : SamplingMethod → Outcome A) (answer : Outcome A) (skips : SamplingMethod → Skipped)
+  pub by-making : {A : Type 0} (out : List A) (draw : SamplingMethod → Outcome A) (answer : Outcome A) (skips : SamplingMethod → Skipped)
       (skipped : Skipped) → (makingNumber d ≡ 0 → draw (preparedMethod d) ≡ answer) → skips (preparedMethod d) ≡ skipped
       → {r : Answer} {after : List A} → Answered r after (preparedDraw p place out draw) (skips (p .method))
       → Answered r after (atOnce d place out answer) skipped

@@ -29,7 +29,7 @@ pub struct ResidueMethod {
 
 // What refuses so many residues of a modulus: 7 or 8 for the length, 10 for a centered binomial's of 0, then 9 for a modulus that is not above the
 // largest magnitude; else 0.
-fn residue_number(method: SamplingMethod, length: usize, modulus: u64) -> u32
+pub fn residue_number(method: SamplingMethod, length: usize, modulus: u64) -> u32
     ensures { λ r. ⌜ r ≡ firstOf (residueNumbers method length modulus) ⌝ }
 {
     let number = length_number(method, length);

@@ -26,6 +26,7 @@ pub use secret_key_sampler::MadeSecretKeySampler;
 pub use secret_key_sampler::SecretKeySampler;
 pub use secret_key_sampler::is_binary;
 pub use secret_key_sampler::is_ternary;
+pub use sheet_request::draw_question;
 pub use stats::Report;
 pub use stats::residue_report;
 pub use ternary::ternary::TernaryEnds;

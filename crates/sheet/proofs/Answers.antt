@@ -1,62 +1,33 @@
--- The draw of a request is the draw that a sheet asks for, and the text of the draw is the sheet's answer.
+-- The text of a sheet's draw is the sheet's answer.
 use Prim.Native.Nat.{ℕ, _<_, _≤_}
 use native.Mathlib.Omega.{arith}
 use mathlib.Core.Path.{_≡_, refl, sym, _∙_, ap}
 use mathlib.Core.Bool.{Bool, true, false, cond}
-use mathlib.Core.List.{List, [], map, append-nil}
-use borrow.Author.Tests.{lt-ltb, le-ltb, eq-eqb, ne-eqb}
+use mathlib.Core.List.{List, [], append-nil}
+use borrow.Author.Tests.{lt-ltb, le-ltb, ne-eqb}
 use lib.Dec.{ltb, eqb}
-use lib.ListN.{length, take, replicate}
+use lib.ListN.{length, take}
 use lib.Seq.{sets, length-take-le}
-use lib.IntN.{ℤ, pos}
+use lib.IntN.{ℤ}
 use Rattle.distr.specs.declared.answer.Answer.{Answer}
 use Rattle.distr.specs.Answers.{sums, reported}
-use Rattle.distr.specs.Distribution.{skipsOf}
-use Rattle.distr.specs.Draw.{Outcome, outcome, noTables}
-use Rattle.distr.proofs.Writing.{map-ext}
-use Rattle.sheet_request.specs.Request.{knownKind, kindDistr, requestSigned, requestEncoded}
+use Rattle.distr.specs.Draw.{Outcome, outcome}
+use Rattle.little_endian.specs.LittleEndian.{wordsAt}
+use Rattle.sheet_request.specs.Request.{questionSkips}
 use Rattle.sheet.specs.declared.fields.Fields.{Fields}
 use Rattle.sheet.specs.Text.{answerText, skippedLine, lineIf}
-use Rattle.sheet.specs.Patterns.{valueOf, valuesOf}
-use Rattle.sheet.specs.Sheet.{fieldsOf, wordsAt, malformed, residues, fieldsDraw, fieldsText, fieldsSkipped, fieldsThird, fieldsTextAs}
+use Rattle.sheet.specs.Sheet.{fieldsOf, malformed, fieldsDraw, fieldsText, fieldsSkipped, fieldsThird, fieldsTextAs}
 use Rattle.sheet.specs.Sheet.{sheetText, sheetThird, sheetTextAs, sheetTextWithSkipped, textLimit, answered, answeredWithSkipped}
 use Rattle.sheet.specs.Written.{Written}
 use Rattle.sheet.proofs.Placing.{written-same, written-then}
 
--- A request of a kind that is known, on zeros, is the draw of the sheet, with what it wrote read as coefficients or as residues.
-module _ (f : Fields) (words : List ℕ) (known : knownKind (f .kind) ≡ true) (answer : Answer) (us : List ℕ) where
-  signed-known : f .modulus ≡ 0 → requestSigned (f .kind) (f .a) (f .b) words (replicate (f .n) (pos 0)) ≡ fieldsDraw f words
-  unfolding requestSigned fieldsDraw
-  signed-known z = rw (known, z)
-
-  pub signed-draw : f .modulus ≡ 0
-      → outcome answer (valuesOf true us) ≡ requestSigned (f .kind) (f .a) (f .b) words (replicate (f .n) (pos 0))
-      → outcome answer (valuesOf (eqb (f .modulus) 0) us) ≡ fieldsDraw f words
-  signed-draw z h = ap (λ b. outcome answer (valuesOf b us)) (eq-eqb (f .modulus) 0 z) ∙ h ∙ signed-known z
-
-  residues-known : (f .modulus ≡ 0 → ⊥) → residues (requestEncoded (f .kind) (f .a) (f .b) (f .modulus) words (replicate (f .n) 0)) ≡ fieldsDraw f words
-  unfolding requestEncoded fieldsDraw
-  residues-known ne = rw (known, ne-eqb (f .modulus) 0 ne)
-
-  plain-values : valuesOf false us ≡ map pos us
-  unfolding valueOf
-  plain-values = map-ext (valueOf false) pos (λ u. refl) us
-
-  pub residue-draw : (room : List ℕ) → (f .modulus ≡ 0 → ⊥) → room ≡ replicate (f .n) 0
-      → outcome answer us ≡ requestEncoded (f .kind) (f .a) (f .b) (f .modulus) words room
-      → outcome answer (valuesOf (eqb (f .modulus) 0) us) ≡ fieldsDraw f words
-  residue-draw room ne e h =
-      ap (λ b. outcome answer (valuesOf b us)) (ne-eqb (f .modulus) 0 ne) ∙ ap (outcome answer) plain-values
-      ∙ ap residues (h ∙ ap (requestEncoded (f .kind) (f .a) (f .b) (f .modulus) words) e) ∙ residues-known ne
-
-  -- and what it reports is what the sheet's draw skipped
-  pub skipped-drawn : {cs : List ℤ} → outcome answer cs ≡ fieldsDraw f words → {size : ℕ} → size ≡ f .n
-      → sums answer ≡ reported (answer .number) (skipsOf (kindDistr (f .kind) (f .a) (f .b)) size noTables words)
-      → sums answer ≡ fieldsSkipped f words
-  unfolding fieldsSkipped
-  skipped-drawn {cs} drawn {size} e h =
-      h ∙ ap (λ (n : ℕ). reported (answer .number) (skipsOf (kindDistr (f .kind) (f .a) (f .b)) n noTables words)) e
-      ∙ ap (λ (o : Outcome ℤ). reported (o .number) (skipsOf (kindDistr (f .kind) (f .a) (f .b)) (f .n) noTables words)) drawn
+-- What a draw of the sheet reports is what the sheet's draw skipped.
+pub skipped-drawn : (f : Fields) (words : List ℕ) (answer : Answer) (cs : List ℤ) → outcome answer cs ≡ fieldsDraw f words → {size : ℕ} → size ≡ f .n
+    → sums answer ≡ reported (answer .number) (questionSkips (f .kind) (f .a) (f .b) size words 0) → sums answer ≡ fieldsSkipped f words
+unfolding fieldsSkipped
+skipped-drawn f words answer cs drawn {size} e h =
+    h ∙ ap (λ (n : ℕ). reported (answer .number) (questionSkips (f .kind) (f .a) (f .b) n words 0)) e
+    ∙ ap (λ (o : Outcome ℤ). reported (o .number) (questionSkips (f .kind) (f .a) (f .b) (f .n) words 0)) drawn
 
 -- No line is wanted where there is none.
 no-line : (wanted : Bool) → lineIf wanted [] ≡ []
@@ -122,9 +93,8 @@ pub malformed-text : (wanted : Bool) (s : List ℕ) → malformed s ≡ true →
 unfolding sheetText sheetThird
 malformed-text wanted s e = rw (e, no-line wanted, append-nil (answerText 14 0 0 []))
 
-pub sheet-text : (wanted : Bool) (s : List ℕ) (f : Fields) (words : List ℕ) (size : ℕ) → f ≡ fieldsOf s → malformed s ≡ false → size ≡ f .count
-    → words ≡ wordsAt s (f .offset) size → fieldsTextAs wanted f words ≡ sheetTextAs wanted s
+pub sheet-text : (wanted : Bool) (s : List ℕ) (f : Fields) (words : List ℕ) → f ≡ fieldsOf s → malformed s ≡ false
+    → words ≡ wordsAt s (f .offset) (f .count) → fieldsTextAs wanted f words ≡ sheetTextAs wanted s
 unfolding sheetText sheetThird
-sheet-text wanted s f words size read good e h =
-    ap (fieldsTextAs wanted f) (h ∙ ap (wordsAt s (f .offset)) e)
-    ∙ ap (λ (g : Fields). fieldsTextAs wanted g (wordsAt s (g .offset) (g .count))) read ∙ rw good
+sheet-text wanted s f words read good h =
+    ap (fieldsTextAs wanted f) h ∙ ap (λ (g : Fields). fieldsTextAs wanted g (wordsAt s (g .offset) (g .count))) read ∙ rw good

@@ -13,7 +13,7 @@ use lib.IntN.{ℤ, pos, negsuc, natAbs}
 use Rattle.decimal.specs.Decimal.{decimal}
 use Rattle.decimal.proofs.Digits.{decimal-few}
 use Rattle.sheet.specs.Text.{onlyIf, signedText, itemText, lineFrom, line}
-use Rattle.sheet.specs.Patterns.{isMinus, valueOf, valuesOf}
+use Rattle.little_endian.specs.Patterns.{isMinus, valueOf, valuesOf}
 
 ltb-zero-suc : (i : ℕ) → ltb 0 (suc i) ≡ true
 ltb-zero-suc i = lt-ltb 0 (suc i) (omega arith)

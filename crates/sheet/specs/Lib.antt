@@ -2,5 +2,4 @@
 pub mod Argument
 pub mod Text
 pub mod Written
-pub mod Patterns
 pub mod Sheet

@@ -1,9 +1,9 @@
 -- "The sheet": eight little-endian u32, then words; when it is malformed, what it draws, and its answer.
-use Prim.Native.Nat.{ℕ, zero, suc, _+_, _*_, _^_}
+use Prim.Native.Nat.{ℕ, _+_, _*_}
 use mathlib.Core.Bool.{Bool, not, cond, _||_}
-use mathlib.Core.List.{List, [], _∷_, _++_, map}
+use mathlib.Core.List.{List, [], _++_, map}
 use lib.Dec.{ltb, eqb}
-use lib.ListN.{length, getD, replicate}
+use lib.ListN.{length, replicate}
 use lib.Seq.{sets}
 use lib.IntN.{ℤ, pos}
 use Rattle.distr.specs.Constants.{sheetBytes, sheetCoefficients, sheetWords, invalidSheet}
@@ -11,13 +11,10 @@ use Rattle.distr.specs.Skipped.{Skipped}
 use Rattle.distr.specs.Answers.{reported}
 use Rattle.distr.specs.Distribution.{skipsOf}
 use Rattle.distr.specs.Draw.{Outcome, noTables, signedAtOnce, encodedAtOnce}
+use Rattle.little_endian.specs.LittleEndian.{u32At, wordsAt}
 use Rattle.sheet_request.specs.Request.{knownKind, kindDistr}
 use Rattle.sheet.specs.declared.fields.Fields.{Fields}
 use Rattle.sheet.specs.Text.{answerText, skippedLine, lineIf}
-
--- The little-endian u32 that begins at a byte of the sheet.
-unfoldable pub u32At : List ℕ → ℕ → ℕ
-u32At s i = getD s i 0 + getD s (i + 1) 0 * 2 ^ 8 + getD s (i + 2) 0 * 2 ^ 16 + getD s (i + 3) 0 * 2 ^ 24
 
 -- "Eight little-endian u32": the i-th of them.
 abbrev pub field : List ℕ → ℕ → ℕ
@@ -35,11 +32,6 @@ fieldsOf s = record {
   modulus = field s 6;
   last = field s 7;
 }
-
--- `count` words from a byte of the sheet on, wherever it stands.
-unfoldable pub wordsAt : List ℕ → ℕ → ℕ → List ℕ
-wordsAt s i zero = []
-wordsAt s i (suc count) = u32At s i ∷ wordsAt s (i + 4) count
 
 -- The sheet's words.
 abbrev pub wordsOf : List ℕ → List ℕ

@@ -1,12 +1,13 @@
 // The two lines of an answer, or the one of a refusal, and the third line.
 use crate::text;
+ghost use mathlib.Core.Bool.{true};
 ghost use mathlib.Core.List.{[], _∷_};
 ghost use Prim.Native.Nat.{_+_, _*_, _<_, _≤_};
 ghost use lib.ListN.{length};
 ghost use lib.IntN.{pos};
 ghost use Rattle.distr.specs.Constants.{sheetCoefficients};
 ghost use Rattle.sheet.specs.Text.{line, answerText, skippedLine, lineIf};
-ghost use Rattle.sheet.specs.Patterns.{valuesOf};
+ghost use Rattle.little_endian.specs.Patterns.{valuesOf};
 ghost use Rattle.sheet.specs.Sheet.{textLimit};
 ghost use Rattle.sheet.specs.Written.{Written};
 
@@ -28,15 +29,15 @@ pub(crate) fn write_refusal(text: &mut [u8], number: u32) -> usize
     write_head(text, number as u64, 0, 0)
 }
 
-// A success: the words used, the number of values, and the values.
-pub(crate) fn write_success(text: &mut [u8], used: usize, values: &[u64], signed: bool) -> usize
+// A success: the words used, the number of values, and the values, each the bits of a coefficient.
+pub(crate) fn write_success(text: &mut [u8], used: usize, values: &[u64]) -> usize
     requires { ⌜ (textLimit ≤ length (now text)) × (length (now values) ≤ sheetCoefficients) ⌝ }
-    ensures { λ r. ⌜ Written (now (text .entry)) 0 (answerText 0 used (length (now (values .entry))) (valuesOf signed (now (values .entry)))) (now (text .exit)) r ⌝ }
+    ensures { λ r. ⌜ Written (now (text .entry)) 0 (answerText 0 used (length (now (values .entry))) (valuesOf true (now (values .entry)))) (now (text .exit)) r ⌝ }
     ensures { λ r. ⌜ r ≤ 68 + 22 * length (now (values .entry)) ⌝ }
 {
     let n = values.len();
     let at = write_head(text, 0, used as u64, n as u64);
-    text::write_line(text, at, values, signed)
+    text::write_line(text, at, values, true)
 }
 
 // The third line where it is wanted: the words and the bytes skipped.

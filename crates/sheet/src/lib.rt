@@ -6,6 +6,7 @@ mod reply;
 mod text;
 
 use distr::refusal::INVALID_SHEET;
+use little_endian::words::read_words;
 ghost use mathlib.Core.Path.{_≡_};
 ghost use mathlib.Core.Bool.{false, cond};
 ghost use Prim.Native.Nat.{_≤_};
@@ -34,7 +35,8 @@ fn answer_well_formed(sheet: &[u8], text: &mut [u8], skipped: bool) -> usize
     let offset = f.offset as usize;
     let mut room = words_room();
     let words = &mut room[..count];
-    fields::read_words(sheet, offset, words);
+    let end = offset + 4 * count;
+    read_words(words, &sheet[offset..end]);
     reply::reply(f, words, text, skipped)
 }
 

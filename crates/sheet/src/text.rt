@@ -1,12 +1,12 @@
 // Writing an answer's text into lent bytes. Each function writes at a place and hands back the place after what it wrote. A value to be
-// written is 64 bits: signed ones are a coefficient, others a residue.
+// written is 64 bits: signed ones are a coefficient, others a number of the first or the third line.
 ghost use mathlib.Core.Path.{_≡_};
 ghost use Prim.Native.Nat.{_+_, _*_, _≤_};
 ghost use lib.ListN.{length};
 ghost use lib.IntN.{natAbs};
 ghost use Rattle.decimal.specs.Decimal.{decimal};
 ghost use Rattle.sheet.specs.Text.{onlyIf, itemText, line};
-ghost use Rattle.sheet.specs.Patterns.{valueOf, valuesOf};
+ghost use Rattle.little_endian.specs.Patterns.{valueOf, valuesOf};
 ghost use Rattle.sheet.specs.Written.{Written};
 
 // The largest bits that are not those of a negative number, and the largest bits.

@@ -19,14 +19,14 @@ use Rattle.any_sampler.proofs.Drawing.{drawn-of, skipped-of}
 use Rattle.sheet_request.specs.Request.{knownKind, kindDistr, known, selected}
 
 -- A draw of what a kind selects is the draw of its distribution, or 14, which reports nothing.
-pub asked-draw : {A : Type 0} {r : Answer} {after : List A} (draw : Distr → Outcome A) (skips : Distr → Skipped) (out : List A) (kind a b : ℕ)
-    {found : AnyDistr} → found ≡ selected kind a b → Answered r after (anyAtOnce found 0 out draw) (anySkips found skips)
-    → Answered r after (known kind out (atOnce (kindDistr kind a b) 0 out (draw (kindDistr kind a b)))) (skips (kindDistr kind a b))
+pub asked-draw : {A : Type 0} {r : Answer} {after : List A} (draw : Distr → Outcome A) (skips : Distr → Skipped) (place : ℕ) (out : List A)
+    (kind a b : ℕ) {found : AnyDistr} → found ≡ selected kind a b → Answered r after (anyAtOnce found place out draw) (anySkips found skips)
+    → Answered r after (known kind place out (atOnce (kindDistr kind a b) place out (draw (kindDistr kind a b)))) (skips (kindDistr kind a b))
 unfolding anyAtOnce anySkips
-asked-draw {A} {r} {after} draw skips out kind a b e said = go (knownKind kind) (kindDistr kind a b) (rw e at said)
+asked-draw {A} {r} {after} draw skips place out kind a b e said = go (knownKind kind) (kindDistr kind a b) (rw e at said)
   where
-    go : (b : Bool) (d : Distr) → Answered r after (anyAtOnce (cond b (anyOf d) Unknown) 0 out draw) (anySkips (cond b (anyOf d) Unknown) skips)
-        → Answered r after (cond b (atOnce d 0 out (draw d)) (record { number = invalidSheet; place = 0; output = out })) (skips d)
-    go true d said = (said .0 ∙ drawn-of draw 0 out d, said .1 ∙ ap (reported (r .number)) (skipped-of skips d))
+    go : (b : Bool) (d : Distr) → Answered r after (anyAtOnce (cond b (anyOf d) Unknown) place out draw) (anySkips (cond b (anyOf d) Unknown) skips)
+        → Answered r after (cond b (atOnce d place out (draw d)) (record { number = invalidSheet; place = place; output = out })) (skips d)
+    go true d said = (said .0 ∙ drawn-of draw place out d, said .1 ∙ ap (reported (r .number)) (skipped-of skips d))
     go false d said =
         (said .0, reports-same r nothing (skips d) (λ z. absurd (omega (arith, ap (λ (o : Outcome A). o .number) (said .0)))) (said .1))

@@ -1,16 +1,17 @@
--- A request by numbers: the distribution that a kind selects, its making, and its draw into a lent output.
+-- A question by numbers: the distribution that a kind selects, its making, and its draw from a place of the words into a lent output.
 use Prim.Native.Nat.{ℕ, _-_}
-use mathlib.Core.Bool.{Bool, cond, _&&_}
-use mathlib.Core.List.{List, [], _∷_}
-use lib.Dec.{leb}
-use lib.ListN.{getD}
-use lib.IntN.{ℤ}
+use mathlib.Core.Bool.{Bool, true, cond, _&&_}
+use mathlib.Core.List.{List, [], _∷_, map}
+use lib.Dec.{leb, eqb}
+use lib.ListN.{length, getD, drop, replicate}
+use lib.IntN.{ℤ, pos}
 use Rattle.distr.specs.declared.secret_key_distr.SecretKeyDistr.the-variants.{UniformBinary, SparseTernary, UniformTernary, FixedHammingWeightBinary, BlockBinary, FixedHammingWeightTernary, FixedCompositionTernary}
 use Rattle.distr.specs.declared.secret_key_distr.BlockOccupancy.the-variants.{AtMostOne, ExactlyOne}
 use Rattle.distr.specs.declared.error_distribution.ErrorDistribution.the-variants.{CenteredBinomial}
-use Rattle.distr.specs.Distribution.{Distr, secret, error}
 use Rattle.distr.specs.Constants.{invalidSheet}
-use Rattle.distr.specs.Draw.{Outcome, signedAtOnce, encodedAtOnce}
+use Rattle.distr.specs.Skipped.{Skipped}
+use Rattle.distr.specs.Distribution.{Distr, secret, error, skipsOf}
+use Rattle.distr.specs.Draw.{Outcome, heldOver, noTables, atOnce, signedDraw, encodedDraw}
 use Rattle.any_sampler.specs.declared.AnyDistr.{AnyDistr}
 use Rattle.any_sampler.specs.declared.AnyDistr.the-variants.{Unknown}
 use Rattle.any_sampler.specs.Either.{anyOf}
@@ -40,12 +41,26 @@ kindDistr kind a b =
 abbrev pub selected : ℕ → ℕ → ℕ → AnyDistr
 selected kind a b = cond (knownKind kind) (anyOf (kindDistr kind a b)) Unknown
 
--- Number 14 for another kind; else the draw, from the first word on. The numbers of making come before those of the draw, and a sheet lends no tables.
-abbrev pub known : {A : Type 0} → ℕ → List A → Outcome A → Outcome A
-known kind out drawn = cond (knownKind kind) drawn (record { number = invalidSheet; place = 0; output = out })
+-- 02 [4]: "another kind gives 14"; "then come the numbers of making and those of the draw".
+abbrev pub known : {A : Type 0} → ℕ → ℕ → List A → Outcome A → Outcome A
+known kind place out drawn = cond (knownKind kind) drawn (record { number = invalidSheet; place = place; output = out })
 
-unfoldable pub requestSigned : ℕ → ℕ → ℕ → List ℕ → List ℤ → Outcome ℤ
-requestSigned kind a b words out = known kind out (signedAtOnce (kindDistr kind a b) words 0 out)
+-- Residues as their value, in an output of signed numbers.
+abbrev pub asValues : List ℤ → Outcome ℕ → Outcome ℤ
+asValues out o = heldOver (map pos) out o
 
-unfoldable pub requestEncoded : ℕ → ℕ → ℕ → ℕ → List ℕ → List ℕ → Outcome ℕ
-requestEncoded kind a b modulus words out = known kind out (encodedAtOnce (kindDistr kind a b) modulus words 0 out)
+-- The draw of a distribution: signed coefficients where the modulus is 0, else residues.
+unfoldable pub valuesDraw : Distr → ℕ → List ℕ → ℕ → List ℤ → Outcome ℤ
+valuesDraw d modulus words place out =
+    cond (eqb modulus 0) (signedDraw true d noTables words place out)
+    (asValues out (encodedDraw true d noTables modulus words place (replicate (length out) 0)))
+
+-- 02 [4]: "The desk draws the sheet's nine kinds with its A, B and modulus": 14, then the numbers of making, then the draw.
+unfoldable pub question : ℕ → ℕ → ℕ → ℕ → List ℕ → ℕ → List ℤ → Outcome ℤ
+question kind a b modulus words place out =
+    let d = kindDistr kind a b in
+    known kind place out (atOnce d place out (valuesDraw d modulus words place out))
+
+-- 02 [1]: what the draw of n coefficients skips.
+abbrev pub questionSkips : ℕ → ℕ → ℕ → ℕ → List ℕ → ℕ → Skipped
+questionSkips kind a b n words place = skipsOf (kindDistr kind a b) n noTables (drop place words)

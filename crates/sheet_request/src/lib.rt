@@ -1,19 +1,18 @@
-// Inner crate of the program keysheet: a request by numbers, whose kind selects the distribution, which is made and drawn once into a
-// lent output by a sampler of primus_distr.
+// Inner crate: a question by numbers, whose kind selects the distribution, which is made and drawn once from a place of the words into a lent output.
+// The library hands it out, and the sheet and the desk draw by it.
+mod residues;
+
 use any_sampler::AnyDistr;
 use distr::answer::Answer;
 use distr::error_distribution::ErrorDistribution;
 use distr::secret_key_distr::BlockOccupancy;
 use distr::secret_key_distr::SecretKeyDistr;
-use prepared_draws::encoded;
-use prepared_draws::encoded::ResidueMethod;
 use prepared_draws::signed;
 ghost use mathlib.Core.Path.{_≡_};
 ghost use lib.ListN.{length};
-ghost use Rattle.distr.specs.Draw.{outcome, noTables};
+ghost use Rattle.distr.specs.Draw.{outcome};
 ghost use Rattle.distr.specs.Answers.{sums, reported};
-ghost use Rattle.distr.specs.Distribution.{skipsOf};
-ghost use Rattle.sheet_request.specs.Request.{selected, requestSigned, requestEncoded, kindDistr};
+ghost use Rattle.sheet_request.specs.Request.{selected, question, questionSkips};
 
 // The distribution of a kind, or 14. Unused parameters are ignored.
 fn select(kind: u32, a: u32, b: u32) -> AnyDistr
@@ -46,29 +45,24 @@ fn select(kind: u32, a: u32, b: u32) -> AnyDistr
     }
 }
 
-// Draws signed coefficients of a kind: 14 for a kind that is none, then the numbers of making, then those of the draw. No kind uses a
-// table, so none is lent.
-pub fn draw_signed(output: &mut [i64], kind: u32, a: u32, b: u32, words: &[u32]) -> Answer
-    ensures { λ r. ⌜ outcome r (now (output .exit)) ≡ requestSigned kind a b (now (words .entry)) (now (output .entry)) ⌝ }
-    ensures { λ r. ⌜ sums r ≡ reported (r .number) (skipsOf (kindDistr kind a b) (length (now (output .entry))) noTables (now (words .entry))) ⌝ }
-{
-    let by = select(kind, a, b).prepare();
-    signed::sample_signed_to(output, by, &[], &[], &[], &[], words, 0)
-}
-
-// Draws residues of a modulus: "kind 9 with a modulus draws as CRT of one".
-pub fn draw_encoded(
-    output: &mut [u64],
+// Draws what a kind with its A and B asks for: signed coefficients where the modulus is 0, else residues as their value. 14 for a kind that is
+// none, then the numbers of making, then those of the draw. No kind uses a table, so none is lent.
+pub fn draw_question(
     kind: u32,
     a: u32,
     b: u32,
-    modulus: u64,
+    modulus: u32,
+    output: &mut [i64],
     words: &[u32],
+    place: usize,
 ) -> Answer
-    ensures { λ r. ⌜ outcome r (now (output .exit)) ≡ requestEncoded kind a b modulus (now (words .entry)) (now (output .entry)) ⌝ }
-    ensures { λ r. ⌜ sums r ≡ reported (r .number) (skipsOf (kindDistr kind a b) (length (now (output .entry))) noTables (now (words .entry))) ⌝ }
+    ensures { λ r. ⌜ outcome r (now (output .exit)) ≡ question kind a b modulus (now (words .entry)) place (now (output .entry)) ⌝ }
+    ensures { λ r. ⌜ sums r ≡ reported (r .number) (questionSkips kind a b (length (now (output .entry))) (now (words .entry)) place) ⌝ }
 {
-    let prepared = select(kind, a, b).prepare();
-    let by = ResidueMethod { prepared, modulus };
-    encoded::sample_encoded_to(output, by, &[], &[], &[], &[], words, 0)
+    let found = select(kind, a, b);
+    if modulus == 0 {
+        let by = found.prepare();
+        return signed::sample_signed_to(output, by, &[], &[], &[], &[], words, place);
+    }
+    residues::draw_residues(output, found, modulus, words, place)
 }

@@ -3,6 +3,7 @@ use mathlib.Core.Path.{_≡_, refl, sym}
 use native.Mathlib.Omega.{arith}
 use borrow.Author.Needs.{needs}
 use lib.ListN.{length, take}
+use Rattle.little_endian.proofs.Reading.{part-read}
 use Rattle.sheet.proofs.Placing.{written-same}
 use Rattle.sheet.proofs.WellFormed.{WellFormed, well-formed}
 use Rattle.sheet.proofs.Answers.{prefix-length, sheet-text}
@@ -18,31 +19,30 @@ sized c =
     let fields = c .before .before .before in
     prefix-length (fields .read-fields .result .count) (c .words-room .result) (omega (arith, good fields .few-words, c .words-room .ensures))
 
-read-words-requires : tie.Need-read-words-requires
-read-words-requires c κs =
-    let room = c .before .before in
-    omega (arith, good (room .before .before .before) .inside, sized room)
-
 reply-requires : tie.Need-reply-requires
 reply-requires c κs =
-    let fields = c .before .before .before .before .before .before .before .before .before .before in
+    let fields = c .before .before .before .before .before .before .before .before .before .before .before in
     (fields .before .before .before .pre .0, good fields .few-coefficients, good fields .known)
 
 returns : tie.Need-returns
 returns c =
     let reply = c .before .before .before in
     let words = reply .before .before .before .before .before in
-    let room = words .before .before .before in
+    let room = words .before .before .before .before in
     let fields = room .before .before .before in
     let start = fields .before .before .before in
+    let sheet = start .args .sheet .now in
+    let f = fields .read-fields .result in
     written-same
-    (sheet-text (start .args .skipped) _ (fields .read-fields .result) _ _ (fields .read-fields .ensures) (start .pre .1) (sym (sized room))
-    (words .read-words .ensures))
+    (sheet-text (start .args .skipped) sheet f _ (fields .read-fields .ensures) (start .pre .1)
+    (part-read sheet (f .offset) (f .count) (good fields .inside) (take (f .count) (room .words-room .result)) _ (sym (sized room))
+    (words .read-words .ensures)))
     (reply .reply .ensures)
 
 pub answer-well-formed-spec : {M : Type 1} → statement M
 answer-well-formed-spec =
     tie.close
     (tie.spec (λ c κs. well-formed _ _ refl (c .before .before .pre .1) .long) (λ c. search needs) (λ c. search needs) (λ c κs. search needs)
-    (λ c. omega (arith, good (c .before .before .before) .few-words, c .words-room .ensures)) (λ c. sized (c .before)) read-words-requires
-    reply-requires (λ c. search needs) returns)
+    (λ c. omega (arith, good (c .before .before .before) .few-words, c .words-room .ensures)) (λ c. sized (c .before)) (λ c. search needs)
+    (λ c. search needs) (λ c. search needs) (λ c. search needs) (λ c. omega (arith, good (c .before .before .before .before .before) .inside))
+    (λ c κs. search needs) reply-requires (λ c. search needs) returns)

@@ -1,6 +1,6 @@
 -- `answer::write_head` writes three numbers, each a residue.
 use borrow.Author.Needs.{needs}
-use Rattle.sheet.specs.Patterns.{valueOf}
+use Rattle.little_endian.specs.Patterns.{valueOf}
 use Rattle.sheet.proofs.answer.write_head.Statement.{statement}
 use Rattle.sheet.proofs.answer.write_head.Tie as tie
 

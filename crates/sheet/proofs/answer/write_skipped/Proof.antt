@@ -1,7 +1,7 @@
 -- `answer::write_skipped` writes two numbers, each a residue, or nothing.
 use native.Mathlib.Omega.{arith}
 use borrow.Author.Needs.{needs}
-use Rattle.sheet.specs.Patterns.{valueOf}
+use Rattle.little_endian.specs.Patterns.{valueOf}
 use Rattle.sheet.proofs.Placing.{written-none}
 use Rattle.sheet.proofs.answer.write_skipped.Statement.{statement}
 use Rattle.sheet.proofs.answer.write_skipped.Tie as tie

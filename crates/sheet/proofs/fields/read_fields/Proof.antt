@@ -1,29 +1,24 @@
--- `fields::read_fields` reads the eight fields of the definition.
+-- `fields::read_fields` reads the eight fields of the definition, which are the first eight words.
+use mathlib.Core.Path.{refl}
 use borrow.Author.Needs.{needs}
+use lib.ListN.{replicate}
+use Rattle.little_endian.specs.LittleEndian.{wordsAt}
+use Rattle.little_endian.proofs.Reading.{part-read}
 use Rattle.sheet.specs.Sheet.{fieldsOf}
+use Rattle.sheet.proofs.Answers.{prefix-length}
 use Rattle.sheet.proofs.fields.read_fields.Statement.{statement}
 use Rattle.sheet.proofs.fields.read_fields.Tie as tie
 
 returns : tie.Need-returns
-unfolding fieldsOf
+unfolding fieldsOf wordsAt
 returns c =
-    let read-u32 = c .before .before .before .before .before .before .before .read-u32 in
-    let read-u322 = c .before .before .before .before .before .before .read-u322 in
-    let read-u323 = c .before .before .before .before .before .read-u323 in
-    let read-u324 = c .before .before .before .before .read-u324 in
-    rw (
-      read-u32 .ensures,
-      read-u322 .ensures,
-      read-u323 .ensures,
-      read-u324 .ensures,
-      c .before .before .before .read-u325 .ensures,
-      c .before .before .read-u326 .ensures,
-      c .before .read-u327 .ensures,
-      c .read-u328 .ensures,
-    )
+    let read = c .before .read-words in
+    let start = c .before .before .before .before .before in
+    rw (part-read (start .args .sheet .now) 0 8 (start .pre) (replicate 8 0) (read .last .0) refl (read .ensures))
 
 pub read-fields-spec : {M : Type 1} → statement M
 read-fields-spec =
     tie.close
-    (tie.spec (λ c κs. search needs) (λ c κs. search needs) (λ c κs. search needs) (λ c κs. search needs) (λ c κs. search needs)
-    (λ c κs. search needs) (λ c κs. search needs) (λ c κs. search needs) returns)
+    (tie.spec (λ c. search needs) (λ c. let start = c .before .before .before in prefix-length 32 (start .args .sheet .now) (start .pre))
+    (λ c κs. search needs) (λ c. search needs) (λ c. search needs) (λ c. search needs) (λ c. search needs) (λ c. search needs) (λ c. search needs)
+    (λ c. search needs) (λ c. search needs) returns)

@@ -1,5 +1,5 @@
 -- `reply::copy_patterns` fills the values front to back: after i turns the first i stand for the first i coefficients.
-use mathlib.Core.Path.{_≡_, refl}
+use mathlib.Core.Path.{_≡_, refl, ap, _∙_}
 use mathlib.Core.Bool.{true}
 use Prim.Native.Nat.{_≤_, _-_}
 use native.Mathlib.Numerals.{add-one}
@@ -10,7 +10,8 @@ use mir.Facts.{toZ-ofZ}
 use lib.ListN.{length, getD, take, length-set}
 use lib.Seq.{take-all}
 use lib.IntN.{pos}
-use Rattle.sheet.specs.Patterns.{valuesOf}
+use Rattle.little_endian.specs.Patterns.{valueOf, valuesOf}
+use Rattle.little_endian.proofs.Patterns.{fits-64, value-back}
 use Rattle.sheet.proofs.Patterns.{copied-more}
 use Rattle.sheet.proofs.reply.copy_patterns.Statement.{statement}
 use Rattle.sheet.proofs.reply.copy_patterns.Tie as tie
@@ -28,7 +29,13 @@ loop-again c =
     let start = test .before .before .before in
     let cs = start .args .coefficients .now in
     let fits : SFits w64 (getD cs (loop .i) (pos 0)) = record { sfits = c .before .pattern-arg .given } in
-    (omega arith, simp length-set (loop .inv .1), rw (add-one (loop .i)) (copied-more (loop .values) cs (loop .i) (c .pattern .result) (omega arith) (omega (arith, start .pre)) (rw (toZ-ofZ fits) at (c .pattern .ensures)) (loop .inv .2)))
+    let v = getD cs (loop .i) (pos 0) in
+    let stands = ap (valueOf true) (rw (toZ-ofZ fits) at (c .pattern .ensures)) ∙ value-back v (fits-64 v fits) in (
+      omega arith,
+      simp length-set (loop .inv .1),
+      rw (add-one (loop .i))
+          (copied-more (loop .values) cs (loop .i) (c .pattern .result) (omega arith) (omega (arith, start .pre)) stands (loop .inv .2)),
+    )
 
 returns : tie.Need-returns Inv-loop μ-loop
 returns c =

@@ -1,11 +1,9 @@
 -- `reply::reply` writes the text of the draw that the fields ask for, and the third line where it is wanted.
-use mathlib.Core.Path.{_≡_, ap, _∙_}
+use mathlib.Core.Path.{_≡_, sym}
 use native.Mathlib.Omega.{arith}
-use Prim.Native.Nat.{ℕ}
 use borrow.Author.Needs.{needs}
-use lib.ListN.{length, take, length-replicate}
+use lib.ListN.{length, take}
 use Rattle.sheet.proofs.Placing.{written-same, written-length}
-use Rattle.distr.proofs.Writing.{take-replicate}
 use Rattle.sheet.proofs.Answers.{refused-text, success-written, prefix-length}
 use Rattle.sheet.proofs.reply.reply.Statement.{statement}
 use Rattle.sheet.proofs.reply.reply.Tie as tie
@@ -15,14 +13,13 @@ sized : (c : tie.After-values-room) → let n = c .before .before .before .befor
 sized c =
     let start = c .before .before .before .before in
     prefix-length (start .args .f .n) (c .values-room .result)
-    (omega (arith, start .pre .1, ap length (c .values-room .ensures), length-replicate {A = ℕ} 4096 0))
+    (omega (arith, start .pre .1, c .values-room .ensures))
 
 draw-requires : tie.Need-draw-requires
 draw-requires c κs =
     let room = c .before .before in
     let start = room .before .before .before .before in
-    let n = start .args .f .n in
-    (start .pre .1, start .pre .2, ap (take n) (room .values-room .ensures) ∙ take-replicate n 4096 0 (start .pre .1))
+    (start .pre .1, start .pre .2, sym (sized room))
 
 returns : tie.Need-returns
 returns c =

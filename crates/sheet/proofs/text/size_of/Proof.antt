@@ -1,7 +1,7 @@
 -- `text::size_of` gives the magnitude of what bits stand for.
 use native.Mathlib.Omega.{arith}
 use borrow.Author.Needs.{needs}
-use Rattle.sheet.specs.Patterns.{valueOf}
+use Rattle.little_endian.specs.Patterns.{valueOf}
 use Rattle.sheet.proofs.Patterns.{minus-above}
 use Rattle.sheet.proofs.text.size_of.Statement.{statement}
 use Rattle.sheet.proofs.text.size_of.Tie as tie

@@ -4,7 +4,7 @@ use Prim.Native.Nat.{_+_, _≤_, _-_}
 use native.Mathlib.Omega.{arith}
 use lib.ListN.{length, length-set}
 use Rattle.sheet.specs.Text.{line}
-use Rattle.sheet.specs.Patterns.{valuesOf}
+use Rattle.little_endian.specs.Patterns.{valuesOf}
 use Rattle.sheet.proofs.Placing.{written-byte, written-length, Writing, writing-none, writing-room, writing-more, writing-done}
 use Rattle.sheet.proofs.Lines.{rest, rest-more, rest-none, item-room, line-length}
 use Rattle.sheet.proofs.text.write_line.Statement.{statement}

@@ -1,0 +1,2 @@
+-- 02 [4], the exam desk: what its entry answers.
+pub mod Desk

@@ -1,0 +1,2 @@
+-- The proof that the desk and the library agree.
+pub mod Agreement
