@@ -25,7 +25,7 @@ def words_for(rng):
     """The bytes of words, few or many, one in eight of them one that choices or bytes pass over; now and then no whole number of them."""
     count = rng.choice((0, 1, 2, 10, 60, 300, 700))
     words = [rng.choice(SKIPPED) if rng.randrange(8) == 0 else rng.getrandbits(32) for _ in range(count)]
-    return b"".join(w.to_bytes(4, "little") for w in words) + bytes(rng.choice((0,) * 20 + (1, 2, 3)))
+    return b"".join(w.to_bytes(4, "little") for w in words) + bytes(rng.choice((0,) * 60 + (1, 2, 3)))
 
 
 def request(rng):
@@ -35,8 +35,8 @@ def request(rng):
     a = {5: rng.choice((0, 1, 2, 4, 8, 16)), 6: rng.choice((0, 1, 2, 3, 8, 32)), 9: rng.randrange(34)}.get(kind, rng.randrange(n + 2))
     b = rng.randrange(max(n - a, 0) + 2)
     words = words_for(rng)
-    output = rng.randbytes(8 * n + rng.choice((0,) * 20 + (1, 4, 7)))
-    place = rng.choice((0, 0, 1, rng.randrange(len(words) // 4 + 2), 2**64 - 1))
+    output = rng.randbytes(8 * n + rng.choice((0,) * 60 + (1, 4, 7)))
+    place = rng.choice((0, 0, 0, 1, 2, rng.randrange(len(words) // 4 + 2), rng.randrange(len(words) // 4 + 2), 2**64 - 1))
     return kind, a, b, rng.choice(MODULI), words, output, place
 
 
