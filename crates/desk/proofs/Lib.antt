@@ -1,3 +1,4 @@
 -- Laws that the proofs of this crate share.
 pub mod Requests
+pub mod Changing
 pub mod WorkedCases

@@ -9,3 +9,4 @@ pub mod Sampled
 pub mod Selecting
 pub mod Small
 pub mod Held
+pub mod Idle

@@ -2,7 +2,7 @@
 use mathlib.Core.Path.{_≡_, refl, ap, ap₂}
 use mathlib.Core.Bool.{Bool, true, false}
 use mathlib.Core.List.{List, [], _∷_, map}
-use Prim.Native.Nat.{ℕ, suc, _+_, _^_, _<_, _-_}
+use Prim.Native.Nat.{ℕ, suc, _^_, _<_, _-_}
 use native.Mathlib.Omega.{arith}
 use mir.Syntax.{w64}
 use mir.Val.{SFits, ofZ, toZ}
@@ -21,22 +21,22 @@ pub fits-64 : (v : ℤ) → SFits w64 v → Is64 v
 fits-64 (pos n) f = f .sfits
 fits-64 (negsuc n) f = f .sfits
 
--- ---- the bits by the magnitude, and the test that the code makes
+-- ---- the bits, by the test that the code makes
 
-minus-bits : (v : ℤ) → SFits w64 v → ltZ v (pos 0) ≡ true → (0 < natAbs v) × (2 ^ 64 - 1 - natAbs v + 1 ≡ encode (2 ^ 64) v)
+minus-bits : (v : ℤ) → SFits w64 v → ltZ v (pos 0) ≡ true → 2 ^ 64 - 1 - (natAbs v - 1) ≡ encode (2 ^ 64) v
 minus-bits (pos n) f e = let no : false ≡ true = rw leb·suc-zero at e in let z : _≡_ {A = ℕ} 0 1 = cc in absurd (omega arith)
-minus-bits (negsuc n) f e = (omega arith, omega (arith, f .sfits))
+minus-bits (negsuc n) f e = omega (arith, f .sfits)
 
 plain-bits : (v : ℤ) → ltZ v (pos 0) ≡ false → natAbs v ≡ encode (2 ^ 64) v
 plain-bits (pos n) e = refl
 plain-bits (negsuc n) e = let no : true ≡ false = e in let z : _≡_ {A = ℕ} 0 1 = cc in absurd (omega arith)
 
-module _ (v : ℤ) (fits : SFits w64 v) {size : ℕ} (s : size ≡ natAbs (toZ w64 (ofZ w64 v))) where
-  pub minus : ltZ (toZ w64 (ofZ w64 v)) (pos 0) ≡ true → (0 < size) × (2 ^ 64 - 1 - size + 1 ≡ encode (2 ^ 64) v)
-  minus e = rw (s, toZ-ofZ fits) (minus-bits v fits (rw (toZ-ofZ fits) at e))
+module _ (v : ℤ) (fits : SFits w64 v) where
+  pub minus : ltZ (toZ w64 (ofZ w64 v)) (pos 0) ≡ true → 2 ^ 64 - 1 - (natAbs v - 1) ≡ encode (2 ^ 64) v
+  minus e = minus-bits v fits (rw (toZ-ofZ fits) at e)
 
-  pub plain : ltZ (toZ w64 (ofZ w64 v)) (pos 0) ≡ false → size ≡ encode (2 ^ 64) v
-  plain e = rw (s, toZ-ofZ fits) (plain-bits v (rw (toZ-ofZ fits) at e))
+  pub plain : ltZ (toZ w64 (ofZ w64 v)) (pos 0) ≡ false → natAbs (toZ w64 (ofZ w64 v)) ≡ encode (2 ^ 64) v
+  plain e = rw (toZ-ofZ fits) (plain-bits v (rw (toZ-ofZ fits) at e))
 
 -- ---- there and back
 

@@ -1,5 +1,4 @@
 // Coefficients into bytes.
-use gaussian_core::encode::magnitude;
 ghost use mathlib.Core.Path.{_≡_};
 ghost use mathlib.Core.Bool.{cond};
 ghost use Prim.Native.Nat.{_*_, _^_};
@@ -9,15 +8,15 @@ ghost use Rattle.distr.specs.Packed.{digits};
 ghost use Rattle.distr.specs.Encoding.{encode};
 ghost use Rattle.little_endian.specs.LittleEndian.{bytesOf};
 
-// A coefficient as 64 bits: of a negative one, 2^64 less its magnitude.
+// A coefficient as 64 bits: of a negative one, 2^64 less its magnitude. A cast of negative numbers is not to be had; the compiler sees that these are the
+// bits as they are.
 pub fn pattern(c: i64) -> u64
     ensures { λ r. ⌜ r ≡ encode (2 ^ 64) c ⌝ }
 {
-    let size = magnitude(c);
     if c < 0 {
-        return 0xffff_ffff_ffff_ffff - size + 1;
+        return 0xffff_ffff_ffff_ffff - (!c) as u64;
     }
-    size
+    c as u64
 }
 
 // Writes the eight bytes of a number, lowest first.

@@ -3,3 +3,4 @@ pub mod Requests
 pub mod Encoding
 pub mod Values
 pub mod Held
+pub mod Idle

@@ -1,24 +1,34 @@
--- `coefficients::pattern` gives the bits of a coefficient by its magnitude.
+-- `coefficients::pattern` gives the bits of a coefficient, of a negative one by its bits, each turned over, twice.
 use native.Mathlib.Omega.{arith}
-use borrow.Author.Needs.{needs}
+use mir.Facts.{toZ-ofZ, fits-natAbs}
+use Rattle.gaussian_core.proofs.Signs.{turned, above}
 use Rattle.little_endian.proofs.Patterns.{minus, plain}
 use Rattle.little_endian.proofs.coefficients.pattern.Statement.{statement}
 use Rattle.little_endian.proofs.coefficients.pattern.Tie as tie
 
-add-result : tie.Need-add-result
-add-result c =
-    let start = c .before .before in
-    omega (arith, minus (start .args .c) (start .fits .c) (c .before .magnitude .ensures) (c .if1 .taken) .0)
+cast-result : tie.Need-cast-result
+cast-result c =
+    let t = turned (c .before .args .c) (c .before .fits .c) (c .if1 .taken) in
+    rw (t .bits) (tt, omega arith)
+
+sub-result : tie.Need-sub-result
+sub-result c =
+    let t = turned (c .before .args .c) (c .before .fits .c) (c .if1 .taken) in
+    rw (t .bits) (omega arith)
 
 returns : tie.Need-returns
 returns c =
-    let start = c .before .before in
-    minus (start .args .c) (start .fits .c) (c .before .magnitude .ensures) (c .if1 .taken) .1
+    let v = c .before .args .c in
+    let t = turned v (c .before .fits .c) (c .if1 .taken) in
+    rw (t .bits) (minus v (c .before .fits .c) (c .if1 .taken))
+
+cast-result-2 : tie.Need-cast-result-2
+cast-result-2 c =
+    let f = c .before .fits .c in
+    rw (toZ-ofZ f) (above (c .before .args .c) f (c .if1 .left), fits-natAbs tt f)
 
 returns-2 : tie.Need-returns-2
-returns-2 c =
-    let start = c .before .before in
-    plain (start .args .c) (start .fits .c) (c .before .magnitude .ensures) (c .if1 .left)
+returns-2 c = plain (c .before .args .c) (c .before .fits .c) (c .if1 .left)
 
 pub pattern-spec : {M : Type 1} → statement M
-pattern-spec = tie.close (tie.spec (λ c κs. search needs) (λ c. search needs) add-result returns returns-2)
+pattern-spec = tie.close (tie.spec cast-result sub-result returns cast-result-2 returns-2)
