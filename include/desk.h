@@ -12,7 +12,7 @@
  *   - What the call may write (the output, the place and both sums) overlaps nothing else that the call is lent.
  *   - No other thread writes to what is lent, or reads what the call may write, until it returns. The entry keeps no state of its own, so calls on separate
  *     buffers may run at the same time.
- *   - The calling thread has DESK_STACK_BYTES of stack left. A call takes some 68 KiB, 64 of them for the words and the coefficients.
+ *   - The calling thread has DESK_STACK_BYTES of stack left. A call takes some 67 KiB, 64 of them for the words and the coefficients.
  */
 #ifndef DESK_H
 #define DESK_H
