@@ -16,6 +16,7 @@ pub record Changes (place : ℕ) (output : List ℕ) (answer : DeskAnswer) : Typ
   -- and every other refusal leaves every byte
   pub unchanged : (answer .number ≡ 0 → ⊥) → (answer .number ≡ outOfWords → ⊥) → answer .output ≡ output
 
+-- Every call, whatever it is lent.
 abbrev pub EveryCall : Type 0
 EveryCall =
     (kind a b modulus : ℕ) (words : List ℕ) (place : ℕ) (output : List ℕ) → Changes place output (deskDraw kind a b modulus words place output)

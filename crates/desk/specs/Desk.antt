@@ -20,6 +20,7 @@ pub record DeskAnswer : Type 0 where
   pub skipped : Skipped
   pub output : List ℕ
 
+-- The same, from the number that is handed back and what stands behind the pointers then.
 abbrev pub deskAnswer : ℕ → ℕ → ℕ → ℕ → List ℕ → DeskAnswer
 deskAnswer number place words bytes output = record { number = number; place = place; skipped = record { words = words; bytes = bytes }; output = output }
 

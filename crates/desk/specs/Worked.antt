@@ -2,11 +2,8 @@
 use Prim.Native.Nat.{ℕ}
 use mathlib.Core.List.{List, [], _∷_, _++_}
 use lib.ListN.{replicate}
+use Rattle.distr.specs.Case.{Case}
 use Rattle.desk.specs.Desk.{DeskAnswer, deskAnswer, deskNumber, deskDraw}
-
-pub record Case (A : Type 0) : Type 0 where
-  pub given : A
-  pub stated : A
 
 -- By the bytes of the words and of the output: exactly 8,192 words and 4,096 coefficients pass.
 unfoldable pub workedNumbers : List (Case ℕ)

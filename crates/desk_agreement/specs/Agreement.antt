@@ -47,7 +47,8 @@ DeskCall (kind, (a, (b, (modulus, (words, (output, (place, rest))))))) number (_
 
 -- ---- the claim
 
--- A desk's answer is the library's: the same number, place and sums, and its bytes are those of the coefficients and are read as them.
+-- A desk's answer is the library's: the same number, place and sums, and its bytes are those of the coefficients and are read as them. (An output of i64
+-- holds coefficients of 64 bits and no others.)
 pub record Same (desk : DeskAnswer) (library : Answer) (after : List ℤ) : Type 0 where
   pub number : desk .number ≡ library .number
   pub place : desk .place ≡ library .place

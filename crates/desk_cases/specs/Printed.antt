@@ -11,6 +11,7 @@ pub record Printed : Type 0 where
   pub bytes : ℕ
   pub field : List ℕ
 
+-- The same from its five parts.
 abbrev pub printed : ℕ → ℕ → ℕ → ℕ → List ℕ → Printed
 printed number place words bytes field = record { number = number; place = place; words = words; bytes = bytes; field = field }
 

@@ -19,4 +19,5 @@ pub mod Numbers
 pub mod SamplePolyCbd
 pub mod Draw
 pub mod Contract
+pub mod Case
 pub mod Marked

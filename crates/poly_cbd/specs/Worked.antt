@@ -2,11 +2,8 @@
 use Prim.Native.Nat.{ℕ}
 use mathlib.Core.List.{List, [], _∷_, _++_}
 use lib.ListN.{replicate}
+use Rattle.distr.specs.Case.{Case}
 use Rattle.distr.specs.SamplePolyCbd.{coefficientOf, samplePolyCbd}
-
-pub record Case (A : Type 0) : Type 0 where
-  pub given : A
-  pub stated : A
 
 -- Coefficient i of a byte string; bytes that are not written are 0.
 unfoldable pub workedCoefficients : List (Case ℕ)
