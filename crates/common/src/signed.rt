@@ -1,4 +1,6 @@
 // Signed coefficients, -1 as itself. Numbers in order: those of making (1 or 5), then 22, 6, 7 or 8, 23.
+// Uniform ternary by division, beside the draw by the table of trits below (02 [5]).
+pub use by_division::signed::sample_uniform_ternary_values_by_division_to;
 use distr::answer::Answer;
 use distr::secret_key_distr::BlockOccupancy;
 use distr::secret_key_distr::SecretKeyDistr;

@@ -1,7 +1,7 @@
 -- The whole answer of a draw by one rule: refused, short of words, or drawn, over how the output holds coefficients.
 use mathlib.Core.Path.{_≡_, refl, sym, ap, ap₂, _∙_}
 use mathlib.Core.List.{List, [], _∷_, _++_, map}
-use Prim.Native.Nat.{ℕ, zero, suc, _+_, _-_, _*_, _/_, _%_, _<_, _≤_}
+use Prim.Native.Nat.{ℕ, zero, suc, _+_, _-_, _*_, _/_, _%_, _^_, _<_, _≤_, min}
 use native.Mathlib.Nat.{mod-lt}
 use native.Mathlib.Omega.{arith}
 use borrow.Author.Tests.{le-leb, lt-leb}
@@ -10,7 +10,7 @@ use lib.IntN.{ℤ, pos}
 use Rattle.distr.specs.Words.{Read, got, short, mapRead}
 use Rattle.distr.specs.Rule.{Rule, readBy}
 use Rattle.distr.specs.Packed.{digits, split, packed}
-use Rattle.distr.specs.UniformTernary.{bytes, uniformTernary, tritValue}
+use Rattle.distr.specs.UniformTernary.{bytes, rejectedBytes, uniformTernary, tritValue}
 use Rattle.distr.specs.Draw.{ruleDraw}
 use Rattle.distr.proofs.Reading.{many-word}
 use Rattle.distr.proofs.Writing.{map-append, map-map, map-replicate, map-take}
@@ -95,6 +95,26 @@ module _ {A : Type 0} (z : A) (entry : ℕ → A) (base each m : ℕ) (words : L
             ∙ ap (map (λ d. f (value d))) (sym (enough base each m n ws fits))
             ∙ sym (map-map f value (take n (split base each (take m ws)))));
       }
+
+-- No trit is wanted: no word is read, and no byte is looked at.
+none-read : (ws : List ℕ) → mapRead (λ ds. map tritValue (take 0 (split 3 5 ds))) (bytes ws 0) ≡ got [] ws
+unfolding mapRead bytes split
+none-read [] = refl
+none-read (w ∷ ws) = refl
+
+pub none-rejected : {n : ℕ} (ws : List ℕ) → n ≡ 0 → 0 ≡ min (rejectedBytes ws ((n + 4) / 5)) (2 ^ 64 - 1)
+unfolding rejectedBytes
+none-rejected [] e = refl
+none-rejected (w ∷ ws) e = rw e
+
+pub trits-none : {A : Type 0} (write : List ℤ → List A) (f : ℤ → A) → ((cs : List ℤ) → write cs ≡ map f cs)
+    → (words : List ℕ) (place : ℕ) (out : List A) {k : ℕ} → k ≡ drawNumber (length words) place (length out) 0 → k ≡ 0 → length out ≡ 0
+    → record { number = 0; place = place; output = out } ≡ ruleDraw write 0 (uniformTernary (length out)) words place out
+trits-none write f writes words place [] number good none =
+    let passed = number-passed (length words) place 0 0 number good in
+    filled write f writes (uniformTernary 0) words place [] number good [] (drop place words) (none-read (drop place words))
+    (rw (length-drop place words) (omega arith)) refl
+trits-none write f writes words place (x ∷ out) number good none = absurd (omega arith)
 
 -- Trits out of bytes: where the reading of bytes stopped decides.
 module _ {A : Type 0} (write : List ℤ → List A) (f : ℤ → A) (writes : (cs : List ℤ) → write cs ≡ map f cs)

@@ -9,7 +9,9 @@ use lib.ListN.{length, getD, take, drop, set, length-map, List·getD-map}
 use lib.Seq.{drop-cons, take-set-le, paste, paste-zero, paste-suc, length-paste}
 use Rattle.distr.specs.Packed.{digits}
 use Rattle.distr.proofs.Digits.{length-digits}
+use Rattle.packed.specs.declared.trits.Places.{Places}
 use Rattle.packed.specs.Pairs.{digitValue, Paired, pairSet}
+use Rattle.packed.specs.TritTable.{dividedPlaces}
 use Rattle.packed.proofs.Pairing.{low-digit, high-digit}
 
 -- x has the digits of w but the k lowest
@@ -83,7 +85,7 @@ module _ {A : Type 0} (base each : ℕ) (z : A) (pairs : List A) (out₀ : List 
       let k = s .within in
       stored-length base each (digitValue z pairs) out₀ at w k (omega arith) (s .stored)
 
-  pub pairwise-more : {k i x : ℕ} {out out′ : List A} → i ≡ at + k → k + 2 ≤ each → Pairwise k out x → out′ ≡ pairSet z pairs out i (x % (base * base))
+  pub pairwise-more : {k i x : ℕ} {out out′ : List A} → i ≡ at + k → k + 2 ≤ each → Pairwise k out x → out′ ≡ pairSet z pairs out i (x % (base * base) * 2)
       → Pairwise (k + 2) out′ (x / (base * base))
   pairwise-more {k} {i} {x} {out} f h s o =
       let value : ℕ → A = digitValue z pairs in
@@ -120,28 +122,27 @@ module _ {A : Type 0} (base each : ℕ) (z : A) (pairs : List A) (out₀ : List 
       ∙ ap (paste out₀ at (map (digitValue z pairs) (digits base each w))) h
 
 -- what stands before a pair stays
-pair-before : {A : Type 0} (z : A) (pairs out : List A) (k i q : ℕ) → k ≤ i → take k (pairSet z pairs out i q) ≡ take k out
-pair-before z pairs out k i q h = take-set-le k (set out i (getD pairs (q * 2) z)) (i + 1) _ (omega arith) ∙ take-set-le k out i _ h
+pair-before : {A : Type 0} (z : A) (pairs out : List A) (k at i : ℕ) → k ≤ at → take k (pairSet z pairs out at i) ≡ take k out
+pair-before z pairs out k at i h = take-set-le k (set out at (getD pairs i z)) (at + 1) _ (omega arith) ∙ take-set-le k out at _ h
 
--- Five trits of a byte: two pairs, by remainders as differences, and what is left.
-pub five-trits : {A : Type 0} (z : A) (pairs out₀ : List A) (at byte : ℕ) {out₁ out₂ : List A} → at + 5 ≤ length out₀ → Paired 3 z pairs
-    → out₁ ≡ pairSet z pairs out₀ at (byte - byte / 9 * 9) → out₂ ≡ pairSet z pairs out₁ (at + 2) (byte / 9 - byte / 81 * 9)
-    → let out₃ = set out₂ (at + 4) (digitValue z pairs (byte / 81)) in
+-- Five trits of a byte, from the places where they stand in the table of pairs: two pairs, and the last.
+pub five-trits : {A : Type 0} (z : A) (pairs out₀ : List A) (at byte : ℕ) {p : Places} {out₁ out₂ : List A} → at + 5 ≤ length out₀ → Paired 3 z pairs
+    → (byte < 243 → p ≡ dividedPlaces byte)
+    → out₁ ≡ pairSet z pairs out₀ at (p .first) → out₂ ≡ pairSet z pairs out₁ (at + 2) (p .second)
+    → let out₃ = set out₂ (at + 4) (getD pairs (p .last) z) in
     (take at out₃ ≡ take at out₀) × (byte < 243 → out₃ ≡ paste out₀ at (map (digitValue z pairs) (digits 3 5 byte)) 5)
-five-trits z pairs out₀ at byte {out₁} {out₂} r p e f =
-    let nines : byte - byte / 9 * 9 ≡ byte % 9 = omega arith in
-    let more : byte / 9 - byte / 81 * 9 ≡ byte / 9 % 9 = omega arith in
-    let top : byte / 81 ≡ byte / 9 / 9 = omega arith in (
-      take-set-le at out₂ (at + 4) _ (omega arith)
-          ∙ ap (take at) f
-          ∙ pair-before z pairs out₁ at (at + 2) (byte / 9 - byte / 81 * 9) (omega arith)
-          ∙ ap (take at) e
-          ∙ pair-before z pairs out₀ at at (byte - byte / 9 * 9) (omega arith),
-      λ b.
-          let two = pairwise-more 3 5 z pairs out₀ at byte {i = at} (omega arith) (omega arith) (pairwise-none 3 5 z pairs out₀ at byte r p) (rw nines at e) in
-          let four = pairwise-more 3 5 z pairs out₀ at byte refl (omega arith) two (rw more at f) in
-          rw top (pairwise-last 3 5 z pairs out₀ at byte refl refl (omega arith) four),
-    )
+five-trits z pairs out₀ at byte {p} {out₁} {out₂} r d same e f = (
+  take-set-le at out₂ (at + 4) _ (omega arith)
+      ∙ ap (take at) f
+      ∙ pair-before z pairs out₁ at (at + 2) (p .second) (omega arith)
+      ∙ ap (take at) e
+      ∙ pair-before z pairs out₀ at at (p .first) (omega arith),
+  λ b.
+      let top : byte / 81 ≡ byte / 9 / 9 = omega arith in
+      let two = pairwise-more 3 5 z pairs out₀ at byte {i = at} (omega arith) (omega arith) (pairwise-none 3 5 z pairs out₀ at byte r d) (rw (same b) at e) in
+      let four = pairwise-more 3 5 z pairs out₀ at byte refl (omega arith) two (rw (same b) at f) in
+      rw (same b, top) (pairwise-last 3 5 z pairs out₀ at byte refl refl (omega arith) four),
+)
 
 -- Copying element by element.
 module _ {A : Type 0} (out₀ : List A) (at : ℕ) (part : List A) where

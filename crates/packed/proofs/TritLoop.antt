@@ -19,8 +19,8 @@ use Rattle.distr.proofs.Reading.{map-read-twice, map-read-same}
 use Rattle.distr.proofs.Digits.{length-digits, length-split}
 use Rattle.distr.proofs.Writing.{map-append, map-take}
 use Rattle.packed.specs.declared.bytes.Ended.{Ended}
-use Rattle.packed.specs.Pairs.{digitValue, digitValues, Paired}
-use Rattle.packed.specs.Trits.{bytesWanted, bytesLooked, tritsFrom, BytesStored, Looked}
+use Rattle.packed.specs.Pairs.{digitValue, digitValues}
+use Rattle.packed.specs.Trits.{bytesWanted, bytesLooked, tritsFrom, TritTables, BytesStored, Looked}
 use Rattle.packed.proofs.Packing.{from-front}
 use Rattle.packed.proofs.Rejecting.{accepted-append, lookedFrom, looked-words, looked-next, looked-none, looked-front}
 
@@ -148,7 +148,7 @@ module _ {A : Type 0} (z : A) (pairs : List A) where
             ∙ ap (digitValues z pairs) (sym (split-append front back) ∙ ap (split 3 5) (sym both)));
       }
 
-module _ {A : Type 0} (z : A) (pairs : List A) (words : List ℕ) (out₀ : List A) (from place : ℕ) where
+module _ {A : Type 0} (z : A) (pairs : List A) (groups words : List ℕ) (out₀ : List A) (from place : ℕ) where
   -- what the rule gives
   abbrev Whole : Read (List A)
   Whole = tritsFrom z pairs out₀ from (drop place words)
@@ -170,18 +170,18 @@ module _ {A : Type 0} (z : A) (pairs : List A) (words : List ℕ) (out₀ : List
     pub sized : length out ≡ length out₀
     pub within : at ≤ length out₀
     pub found : next ≤ length words
-    pub paired : Paired 3 z pairs
+    pub tables : TritTables z pairs groups
     pub same : Left out at (digits 256 left rest) next ≡ Whole
     pub few : left ≤ 4
     pub looked : bytesLooked (drop place words) (length out₀ - from) + left + 4 * place ≡ LeftLooked at (digits 256 left rest) next
 
-  pub trit-none : from ≤ length out₀ → place ≤ length words → Paired 3 z pairs → TritLoop out₀ from place 0 0
+  pub trit-none : from ≤ length out₀ → place ≤ length words → TritTables z pairs groups → TritLoop out₀ from place 0 0
   unfolding digits
   trit-none f h p = record {
     sized = refl;
     within = f;
     found = h;
-    paired = p;
+    tables = p;
     same = ap (mapRead (finished from out₀)) (from-words (drop place words) (bytesWanted (length out₀ - from)));
     few = omega arith;
     looked = omega (arith, looked-words (drop place words) (bytesWanted (length out₀ - from)));
@@ -212,7 +212,7 @@ module _ {A : Type 0} (z : A) (pairs : List A) (words : List ℕ) (out₀ : List
         sized = s .sized;
         within = s .within;
         found = omega arith;
-        paired = s .paired;
+        tables = s .tables;
         same = ap (mapRead (finished at out)) (next-word bytesFrom from-next rest h none l) ∙ s .same;
         few = omega arith;
         looked = omega (arith, s .looked, next-word lookedFrom looked-next rest h none l);
@@ -272,7 +272,7 @@ module _ {A : Type 0} (z : A) (pairs : List A) (words : List ℕ) (out₀ : List
         sized = e;
         within = w;
         found = s .found;
-        paired = s .paired;
+        tables = s .tables;
         same = step ∙ ap (λ (ds : List ℕ). Left out at ds next) (sym more) ∙ s .same;
         few = omega (arith, s .few);
         looked =
@@ -305,7 +305,7 @@ module _ {A : Type 0} (z : A) (pairs : List A) (words : List ℕ) (out₀ : List
         sized = e ∙ s .sized;
         within = omega arith;
         found = omega arith;
-        paired = s .paired;
+        tables = s .tables;
         same =
             left-stored (next + 1) (digits 256 4 w) [] (omega arith) b
             ∙ ap (λ (ds : List ℕ). Left out at ds (next + 1)) (append-nil (digits 256 4 w))
@@ -404,19 +404,19 @@ trits-all z pairs out ws =
 
 -- ---- the bytes looked at, where whole words were stored from the start and the others read from there
 module _ (words : List ℕ) (place : ℕ) where
-  looked-paused : {A : Type 0} (z : A) (pairs out₀ : List A) {out : List A} {at next : ℕ} → TritLoop z pairs words out₀ 0 place out at next 0 0
+  looked-paused : {A : Type 0} (z : A) (pairs : List A) (groups : List ℕ) (out₀ : List A) {out : List A} {at next : ℕ} → TritLoop z pairs groups words out₀ 0 place out at next 0 0
       → bytesLooked (drop place words) (length out₀) + 4 * place ≡ bytesLooked (drop next words) (length out - at) + 4 * next
   unfolding digits
-  looked-paused z pairs out₀ {at = at} {next = next} s =
+  looked-paused z pairs groups out₀ {at = at} {next = next} s =
       let whole = rw (sub-zero (length out₀)) at (s .looked) in
       rw (s .sized) (omega (arith, whole, looked-words (drop next words) (bytesWanted (length out₀ - at))))
 
   -- all that is said where the storing of whole words ends
-  pub words-stored : {A : Type 0} (z : A) (pairs out₀ : List A) {out : List A} {at next : ℕ} → TritLoop z pairs words out₀ 0 place out at next 0 0
+  pub words-stored : {A : Type 0} (z : A) (pairs : List A) (groups : List ℕ) (out₀ : List A) {out : List A} {at next : ℕ} → TritLoop z pairs groups words out₀ 0 place out at next 0 0
       → ((at ≤ length out) × (next ≤ length words) × (tritsFrom z pairs out at (drop next words) ≡ tritsFrom z pairs out₀ 0 (drop place words)))
       × (bytesLooked (drop place words) (length out₀) + 4 * place ≡ bytesLooked (drop next words) (length out - at) + 4 * next)
-  words-stored z pairs out₀ s =
-      ((omega (arith, s .within, s .sized), s .found, trit-paused z pairs words out₀ 0 place s), looked-paused z pairs out₀ s)
+  words-stored z pairs groups out₀ s =
+      ((omega (arith, s .within, s .sized), s .found, trit-paused z pairs groups words out₀ 0 place s), looked-paused z pairs groups out₀ s)
 
   pub looked-short : (k at : ℕ) → Looked (record { found = false; place = at; left = 0 }) words place k
   looked-short k at = record { few = omega arith; all = λ f. absurd (true≢false (sym f)) }

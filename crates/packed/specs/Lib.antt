@@ -3,4 +3,5 @@
 pub mod Pairs
 pub mod Cutting
 pub mod Tabled
+pub mod TritTable
 pub mod Trits

@@ -32,6 +32,6 @@ pub record Paired {A : Type 0} (base : ℕ) (z : A) (pairs : List A) : Type 0 wh
   pub low : (q : ℕ) → q < base * base → getD pairs (q * 2) z ≡ digitValue z pairs (q % base)
   pub high : (q : ℕ) → q < base * base → getD pairs (q * 2 + 1) z ≡ digitValue z pairs (q / base)
 
--- The output with a pair stored.
+-- The output with the pair stored that stands at i.
 abbrev pub pairSet : {A : Type 0} → A → List A → List A → ℕ → ℕ → List A
-pairSet z pairs out at q = set (set out at (getD pairs (q * 2) z)) (at + 1) (getD pairs (q * 2 + 1) z)
+pairSet z pairs out at i = set (set out at (getD pairs i z)) (at + 1) (getD pairs (i + 1) z)

@@ -8,7 +8,8 @@ use Rattle.distr.specs.Words.{Read, got, short, mapRead}
 use Rattle.distr.specs.Packed.{split}
 use Rattle.distr.specs.UniformTernary.{acceptedBytes, bytes, rejectedBytes}
 use Rattle.packed.specs.declared.bytes.Ended.{Ended}
-use Rattle.packed.specs.Pairs.{digitValues}
+use Rattle.packed.specs.Pairs.{digitValues, Paired}
+use Rattle.packed.specs.TritTable.{keptTable}
 
 -- How many bytes k values need.
 abbrev pub bytesWanted : ℕ → ℕ
@@ -22,6 +23,11 @@ bytesLooked ws k = rejectedBytes ws (bytesWanted k) + bytesWanted k
 abbrev pub tritsFrom : {A : Type 0} → A → List A → List A → ℕ → List ℕ → Read (List A)
 tritsFrom z pairs out at ws =
     mapRead (λ ds. take at out ++ digitValues z pairs (take (length out - at) (split 3 5 ds))) (bytes ws (bytesWanted (length out - at)))
+
+-- The two tables of a draw of trits: the pairs of their values, and the groups of the bytes.
+pub record TritTables {A : Type 0} (z : A) (pairs : List A) (groups : List ℕ) : Type 0 where
+  pub paired : Paired 3 z pairs
+  pub kept : groups ≡ keptTable
 
 -- From `at` on the values of the bytes below 243 among bs are stored, five a byte; they end before at′. What stands there is left free.
 pub record BytesStored {A : Type 0} (z : A) (pairs out : List A) (at : ℕ) (bs : List ℕ) (out′ : List A) (at′ : ℕ) : Type 0 where

@@ -2,4 +2,5 @@
 // takes, the laws of the loops that store. The draws stand in crates of their own, one for each output type.
 pub mod bytes;
 pub mod needed;
+pub mod trits;
 pub mod width;

@@ -3,6 +3,8 @@ use crate::Out;
 use packed::bytes::ACCEPTED;
 use packed::bytes::Ended;
 use packed::bytes::WordsStored;
+use packed::trits::TritsBy;
+use packed::trits::places_of;
 use packed::width::Width;
 ghost use mathlib.Core.Path.{_≡_};
 ghost use mathlib.Core.List.{[], _∷_};
@@ -15,14 +17,13 @@ ghost use Rattle.distr.specs.UniformTernary.{bytes};
 ghost use Rattle.output_u64.specs.Out.{zero};
 ghost use Rattle.packed.specs.Pairs.{digitValues, Paired, pairSet};
 ghost use Rattle.packed.specs.Cutting.{Cut, digitBase, digitsAWord};
-ghost use Rattle.packed.specs.Trits.{BytesStored, Looked, bytesLooked, tritsFrom, reading};
+ghost use Rattle.packed.specs.Trits.{TritTables, BytesStored, Looked, bytesLooked, tritsFrom, reading};
 
-// Stores the two numbers of the pair q, at `at` and after it.
-fn store_pair(output: &mut [Out], at: usize, pairs: &[Out], q: u32)
-    requires { ⌜ (at + 2 ≤ length (now output)) × (q * 2 + 2 ≤ length (now pairs)) ⌝ }
-    ensures { λ r. ⌜ now (output .exit) ≡ pairSet zero (now (pairs .entry)) (now (output .entry)) at q ⌝ }
+// Stores the two numbers of the pair that stands at i, at `at` and after it.
+fn store_pair(output: &mut [Out], at: usize, pairs: &[Out], i: usize)
+    requires { ⌜ (at + 2 ≤ length (now output)) × (i + 2 ≤ length (now pairs)) ⌝ }
+    ensures { λ r. ⌜ now (output .exit) ≡ pairSet zero (now (pairs .entry)) (now (output .entry)) at i ⌝ }
 {
-    let i = q as usize * 2;
     let first = pairs[i];
     let second = pairs[i + 1];
     output[at] = first;
@@ -38,49 +39,69 @@ fn store_digits(output: &mut [Out], at: usize, pairs: &[Out], base: u32, each: u
     let mut x = word;
     let mut k = 0;
     while k < each {
-        store_pair(output, at + k, pairs, x % square);
+        store_pair(output, at + k, pairs, (x % square) as usize * 2);
         x = x / square;
         k += 2;
     }
 }
 
-// The five trits of a byte: two pairs, and the last one, which is what is left. A byte past those accepted is stored too, so that nothing
-// branches on it, and leaves what stands before `at`. Remainders are taken by differences, which spares the compiler's 8-bit ones.
-fn store_trits(output: &mut [Out], at: usize, pairs: &[Out], byte: u32)
-    requires { ⌜ (at + 5 ≤ length (now output)) × (byte < 256) × Paired 3 zero (now pairs) ⌝ }
+// The five trits of a byte: two pairs and the last one, each from where it stands in the table of pairs. A byte past those accepted is stored too, so
+// that nothing branches on it, and leaves what stands before `at`.
+fn store_trits(
+    output: &mut [Out],
+    at: usize,
+    pairs: &[Out],
+    by: TritsBy,
+    groups: &[u32; 243],
+    byte: u32,
+)
+    requires { ⌜ (at + 5 ≤ length (now output)) × (byte < 256) × TritTables zero (now pairs) (now groups) ⌝ }
     ensures { λ r. ⌜ (take at (now (output .exit)) ≡ take at (now (output .entry)))
         × (byte < 243 → now (output .exit) ≡ paste (now (output .entry)) at (digitValues zero (now (pairs .entry)) (digits 3 5 byte)) 5) ⌝ }
 {
-    let x = byte / 9;
-    let y = byte / 81;
-    store_pair(output, at, pairs, byte - x * 9);
-    store_pair(output, at + 2, pairs, x - y * 9);
-    let i = y as usize * 2;
+    let places = places_of(by, groups, byte as u8);
+    let i = places.last;
+    store_pair(output, at, pairs, places.first);
+    store_pair(output, at + 2, pairs, places.second);
     let last = pairs[i];
     output[at + 4] = last;
 }
 
 // A byte's trits, and the place after them; a byte that is skipped leaves the place.
-fn store_byte(output: &mut [Out], at: usize, pairs: &[Out], byte: u32) -> usize
-    requires { ⌜ (at + 5 ≤ length (now output)) × (byte < 256) × Paired 3 zero (now pairs) ⌝ }
+fn store_byte(
+    output: &mut [Out],
+    at: usize,
+    pairs: &[Out],
+    by: TritsBy,
+    groups: &[u32; 243],
+    byte: u32,
+) -> usize
+    requires { ⌜ (at + 5 ≤ length (now output)) × (byte < 256) × TritTables zero (now pairs) (now groups) ⌝ }
     ensures { λ r. ⌜ BytesStored zero (now (pairs .entry)) (now (output .entry)) at (byte ∷ []) (now (output .exit)) r ⌝ }
 {
-    store_trits(output, at, pairs, byte);
+    store_trits(output, at, pairs, by, groups, byte);
     let accepted = (byte < ACCEPTED) as usize;
     at + 5 * accepted
 }
 
 // The trits of a word's four bytes, and the place after them.
-fn store_word(output: &mut [Out], at: usize, pairs: &[Out], word: u32) -> usize
-    requires { ⌜ (at + 20 ≤ length (now output)) × Paired 3 zero (now pairs) ⌝ }
+fn store_word(
+    output: &mut [Out],
+    at: usize,
+    pairs: &[Out],
+    by: TritsBy,
+    groups: &[u32; 243],
+    word: u32,
+) -> usize
+    requires { ⌜ (at + 20 ≤ length (now output)) × TritTables zero (now pairs) (now groups) ⌝ }
     ensures { λ r. ⌜ BytesStored zero (now (pairs .entry)) (now (output .entry)) at (digits 256 4 word) (now (output .exit)) r ⌝ }
 {
     let second = word / 256;
     let third = second / 256;
-    let one = store_byte(output, at, pairs, word % 256);
-    let two = store_byte(output, one, pairs, second % 256);
-    let three = store_byte(output, two, pairs, third % 256);
-    store_byte(output, three, pairs, third / 256 % 256)
+    let one = store_byte(output, at, pairs, by, groups, word % 256);
+    let two = store_byte(output, one, pairs, by, groups, second % 256);
+    let three = store_byte(output, two, pairs, by, groups, third % 256);
+    store_byte(output, three, pairs, by, groups, third / 256 % 256)
 }
 
 // What is left of the output from `at` on becomes the front of the part: the digits of a last word or byte, stored aside whole.
@@ -150,8 +171,15 @@ pub(crate) fn fill_words(
 
 // Whole words from `place` on, while there are any and the output has room for all their bytes. The last place where a word fits is worked
 // out beforehand, so that a turn tests one index.
-fn store_words(output: &mut [Out], pairs: &[Out], words: &[u32], place: usize) -> WordsStored
-    requires { ⌜ (place ≤ length (now words)) × Paired 3 zero (now pairs) ⌝ }
+fn store_words(
+    output: &mut [Out],
+    pairs: &[Out],
+    by: TritsBy,
+    groups: &[u32; 243],
+    words: &[u32],
+    place: usize,
+) -> WordsStored
+    requires { ⌜ (place ≤ length (now words)) × TritTables zero (now pairs) (now groups) ⌝ }
     ensures { λ r. ⌜ (r .at ≤ length (now (output .exit))) × (r .place ≤ length (now (words .entry)))
         × (tritsFrom zero (now (pairs .entry)) (now (output .exit)) (r .at) (drop (r .place) (now (words .entry)))
         ≡ tritsFrom zero (now (pairs .entry)) (now (output .entry)) 0 (drop place (now (words .entry)))) ⌝ }
@@ -171,7 +199,7 @@ fn store_words(output: &mut [Out], pairs: &[Out], words: &[u32], place: usize) -
             return WordsStored { at, place: next };
         }
         let word = words[next];
-        at = store_word(output, at, pairs, word);
+        at = store_word(output, at, pairs, by, groups, word);
         next += 1;
     }
     WordsStored { at, place: next }
@@ -179,8 +207,16 @@ fn store_words(output: &mut [Out], pairs: &[Out], words: &[u32], place: usize) -
 
 // Fills the output from `from` on with what the trits from `place` on stand for, byte by byte. `rest` is what is left of the word read
 // last, in `left` bytes: what stands there in the end was not looked at. Where a word is missing the output holds what was written before.
-fn fill_bytes(output: &mut [Out], from: usize, pairs: &[Out], words: &[u32], place: usize) -> Ended
-    requires { ⌜ (from ≤ length (now output)) × (place ≤ length (now words)) × Paired 3 zero (now pairs) ⌝ }
+fn fill_bytes(
+    output: &mut [Out],
+    from: usize,
+    pairs: &[Out],
+    by: TritsBy,
+    groups: &[u32; 243],
+    words: &[u32],
+    place: usize,
+) -> Ended
+    requires { ⌜ (from ≤ length (now output)) × (place ≤ length (now words)) × TritTables zero (now pairs) (now groups) ⌝ }
     ensures { λ r. ⌜ (r .place ≤ length (now (words .entry)))
         × (reading r (now (output .exit)) (now (words .entry))
         ≡ tritsFrom zero (now (pairs .entry)) (now (output .entry)) from (drop place (now (words .entry)))) ⌝ }
@@ -209,11 +245,11 @@ fn fill_bytes(output: &mut [Out], from: usize, pairs: &[Out], words: &[u32], pla
             rest = rest / 256;
             left -= 1;
             if at + 5 <= n {
-                at = store_byte(output, at, pairs, byte);
+                at = store_byte(output, at, pairs, by, groups, byte);
             } else {
                 if byte < ACCEPTED {
                     let mut last = [0; 8];
-                    store_trits(&mut last, 0, pairs, byte);
+                    store_trits(&mut last, 0, pairs, by, groups, byte);
                     store_front(output, at, &last);
                     at = n;
                 }
@@ -229,14 +265,21 @@ fn fill_bytes(output: &mut [Out], from: usize, pairs: &[Out], words: &[u32], pla
 
 // Fills the output with what the trits from `place` on stand for: whole words while the output has room for one, and the last ones byte by byte.
 // Where a word is missing the output holds what was written before.
-pub(crate) fn fill_trits(output: &mut [Out], pairs: &[Out], words: &[u32], place: usize) -> Ended
-    requires { ⌜ (place ≤ length (now words)) × Paired 3 zero (now pairs) ⌝ }
+pub(crate) fn fill_trits(
+    output: &mut [Out],
+    pairs: &[Out],
+    by: TritsBy,
+    groups: &[u32; 243],
+    words: &[u32],
+    place: usize,
+) -> Ended
+    requires { ⌜ (place ≤ length (now words)) × TritTables zero (now pairs) (now groups) ⌝ }
     ensures { λ r. ⌜ (r .place ≤ length (now (words .entry)))
         × (reading r (now (output .exit)) (now (words .entry))
         ≡ mapRead (λ ds. digitValues zero (now (pairs .entry)) (take (length (now (output .entry))) (split 3 5 ds)))
         (bytes (drop place (now (words .entry))) ((length (now (output .entry)) + 4) / 5))) ⌝ }
     ensures { λ r. ⌜ Looked r (now (words .entry)) place (length (now (output .entry))) ⌝ }
 {
-    let stored = store_words(output, pairs, words, place);
-    fill_bytes(output, stored.at, pairs, words, stored.place)
+    let stored = store_words(output, pairs, by, groups, words, place);
+    fill_bytes(output, stored.at, pairs, by, groups, words, stored.place)
 }

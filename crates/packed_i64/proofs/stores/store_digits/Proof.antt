@@ -1,5 +1,5 @@
 -- `stores::store_digits` stores the digits of a word, two a turn: after k digits the k lowest are stored.
-use Prim.Native.Nat.{_-_}
+use Prim.Native.Nat.{_*_, _-_, _%_, _^_, _<_}
 use mathlib.Core.Path.{refl}
 use native.Mathlib.Omega.{arith}
 use native.Mathlib.Nat.{mul-pos, mod-lt}
@@ -22,6 +22,13 @@ loop-holds c = let pre = c .pre in pairwise-none _ _ _ _ _ _ _ (pre .0) (pre .1 
 
 rem-store-pair : tie.Need-rem-store-pair Inv-loop μ-loop
 rem-store-pair c = let p = c .before .before .loop .inv .paired .positive in mul-pos p p
+
+-- a pair's number is below base², which a word holds
+pair-below : (c : tie.After-store-pair-arg Inv-loop μ-loop) → let at = c .before .before in at .loop .x % (at .before .args .base * at .before .args .base) < 2 ^ 32
+pair-below c =
+    let at = c .before .before in
+    let p = at .loop .inv .paired .positive in
+    omega (arith, mod-lt (at .loop .x) (mul-pos p p), square-fits (at .before .pre .1 .small))
 
 store-pair-requires : tie.Need-store-pair-requires Inv-loop μ-loop
 store-pair-requires c κs =
@@ -47,5 +54,6 @@ returns c = pairwise-done _ _ _ _ _ _ _ (c .loop-test .left) (c .before .loop .i
 pub store-digits-spec : {M : Type 1} → statement M
 store-digits-spec =
     tie.close
-    (tie.spec Inv-loop μ-loop mul-square loop-holds (λ c. omega arith) rem-store-pair store-pair-requires div-x (λ c. omega arith) (λ c. omega arith)
+    (tie.spec Inv-loop μ-loop mul-square loop-holds (λ c. omega arith) rem-store-pair (λ c. omega (arith, pair-below c))
+    (λ c. omega (arith, pair-below c)) store-pair-requires div-x (λ c. omega arith) (λ c. omega arith)
     loop-again same-length returns)

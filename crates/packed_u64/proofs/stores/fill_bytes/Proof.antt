@@ -7,11 +7,11 @@ use Rattle.packed_u64.proofs.stores.fill_bytes.Statement.{statement}
 use Rattle.packed_u64.proofs.stores.fill_bytes.Tie as tie
 
 abbrev Inv-loop : tie.InvT-loop
-Inv-loop output₀ from pairs words place n count at₀ next₀ rest₀ left₀ output at next rest left =
-    TritLoop 0 pairs words output₀ from place output at next rest left
+Inv-loop output₀ from pairs by groups words place n count at₀ next₀ rest₀ left₀ output at next rest left =
+    TritLoop 0 pairs groups words output₀ from place output at next rest left
 
 abbrev μ-loop : tie.MeasureT-loop
-μ-loop output₀ from pairs words place n count at₀ next₀ rest₀ left₀ output at next rest left = 5 * (count - next) + left
+μ-loop output₀ from pairs by groups words place n count at₀ next₀ rest₀ left₀ output at next rest left = 5 * (count - next) + left
 
 pub fill-bytes-spec : {M : Type 1} → statement M
 fill-bytes-spec =

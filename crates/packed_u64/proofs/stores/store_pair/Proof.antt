@@ -12,4 +12,4 @@ pub store-pair-spec : {M : Type 1} → statement M
 store-pair-spec =
     tie.close
     (tie.spec (λ c. search needs) (λ c. search needs) (λ c. search needs) (λ c. search needs) (λ c. search needs) (λ c. search needs)
-    (λ c. search needs) (λ c. search needs) (λ c. search needs) (λ c. search needs) slice-write-output-2 (λ c. search needs) (λ c. search needs))
+    (λ c. search needs) (λ c. search needs) (λ c. search needs) slice-write-output-2 (λ c. search needs) (λ c. search needs))

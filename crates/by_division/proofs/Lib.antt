@@ -1,0 +1,2 @@
+-- That the rule's draw of trits is the draw of its distribution.
+pub mod Answering

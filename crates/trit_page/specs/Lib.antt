@@ -1,0 +1,2 @@
+-- The page of trits.
+pub mod Page
