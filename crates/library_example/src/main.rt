@@ -85,11 +85,15 @@ fn ternary() {
     print::signed_line(b"ternary", answer, &output);
 }
 
-// Draws without a sampler: the word 5 as five base-3 digits (marked case 2), and two blocks of 2 by the choices 1 and 0 (marked case 12).
+// Draws without a sampler: the word 5 as five base-3 digits (marked case 2), by the table of trits and, over 3, by division; and two blocks of 2 by the
+// choices 1 and 0 (marked case 12).
 fn at_once() {
     let mut digits = [9i64; 5];
     let answer = signed::sample_uniform_ternary_values_to(&mut digits, &[5], 0);
     print::signed_line(b"uniform ternary", answer, &digits);
+    let mut divided = [9u64; 5];
+    let answer = residues::sample_uniform_ternary_values_by_division_to(&mut divided, 3, &[5], 0);
+    print::line(b"by division, over 3", answer, &divided);
     let mut blocks = [9u64; 4];
     let occupancy = BlockOccupancy::ExactlyOne;
     let answer = residues::sample_block_binary_values_to(&mut blocks, 2, 2, occupancy, &[1, 0], 0);
