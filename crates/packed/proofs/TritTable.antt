@@ -8,12 +8,12 @@ use native.Mathlib.Omega.{arith}
 use borrow.Author.Tests.{lt-ltb, le-ltb, ltb-true}
 use lib.Dec.{ltb}
 use mir.Val.{boolByte}
-use lib.ListN.{getD, List·getD-map}
+use lib.ListN.{length, getD, List·getD-map}
 use Rattle.distr.specs.Packed.{digits}
 use Rattle.packed.specs.declared.trits.Places.{Places}
 use Rattle.packed.specs.declared.trits.TritsBy.{TritsBy}
 use Rattle.packed.specs.declared.trits.TritsBy.the-variants.{Table, Division}
-use Rattle.packed.specs.TritTable.{countUp, tritTable, kept, keptTable, groupPlaces, dividedPlaces, placesBy}
+use Rattle.packed.specs.TritTable.{countUp, tritTable, kept, keptTable, TableRule, groupPlaces, digitsAt, dividedPlaces, placesBy}
 
 -- the number at k
 count-at : (from count k : ℕ) → k < count → getD (countUp from count) k 0 ≡ from + k
@@ -58,6 +58,28 @@ kept-places byte h =
     let last : byte / 3 / 3 / 3 / 3 % 3 ≡ byte / 81 = rw top (omega arith) in
     ap groupPlaces (weighed (byte % 3) (byte / 3 % 3) (byte / 3 / 3 % 3) (byte / 3 / 3 / 3 % 3) (byte / 3 / 3 / 3 / 3 % 3) first second last)
     ∙ parts (byte % 9 * 2) (byte / 9 % 9 * 2) (byte / 81 * 2) (omega arith) (omega arith)
+
+-- and the digits that stand there are those of the byte
+size : length keptTable ≡ 243
+unfolding keptTable tritTable countUp
+size = refl
+
+digit-at : (byte k : ℕ) → byte < 243 → k < 5 → getD (digitsAt (dividedPlaces byte)) k 0 ≡ byte / 3 ^ k % 3
+digit-at byte zero h l = omega arith
+digit-at byte (suc zero) h l = omega arith
+digit-at byte (suc (suc zero)) h l = omega arith
+digit-at byte (suc (suc (suc zero))) h l = omega arith
+digit-at byte (suc (suc (suc (suc zero)))) h l = omega arith
+digit-at byte (suc (suc (suc (suc (suc k))))) h l = absurd (omega arith)
+
+pub table-rule : TableRule keptTable
+table-rule = record {
+  groups = size;
+  entries = λ byte k h l.
+      ap (λ (group : ℕ). getD (digitsAt (groupPlaces group)) k 0) (kept-at byte h)
+      ∙ ap (λ (p : Places). getD (digitsAt p) k 0) (kept-places byte h)
+      ∙ digit-at byte k h l;
+}
 
 -- a byte that is not skipped takes its own group, another the first
 pub index-of : (byte : ℕ) (accepted : Bool) → byte * boolByte accepted ≡ cond accepted byte 0

@@ -1,7 +1,7 @@
 // The table of trits (02 [5]), and where the trits of a byte stand in a table of pairs: by that table, or by division.
 use crate::bytes::ACCEPTED;
 ghost use mathlib.Core.Path.{_≡_};
-ghost use Rattle.packed.specs.TritTable.{keptTable, placesBy};
+ghost use Rattle.packed.specs.TritTable.{keptTable, TableRule, placesBy};
 
 // The weights of the five digits in the number that keeps a group. A table of pairs has the pair of two trits, low and high, at twice the low one and six
 // times the high one: so the lowest byte says where the first pair stands, the next byte where the second does, and what is above where the last trit does.
@@ -266,6 +266,7 @@ const TRITS: [u32; 243] = [
 // The table, for a draw to look into.
 pub fn trit_table() -> [u32; 243]
     ensures { λ r. ⌜ r ≡ keptTable ⌝ }
+    ensures { λ r. ⌜ TableRule r ⌝ }
 {
     TRITS
 }

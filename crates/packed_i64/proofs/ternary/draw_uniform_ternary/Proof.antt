@@ -47,7 +47,7 @@ fill-trits-requires c κs =
       good judged .0,
       record {
         paired = made-paired (pos 0) (negsuc 0 ∷ pos 0 ∷ pos 1 ∷ []) (omega arith) (rw (made .before .minus-one .ensures) at (made .trits .ensures));
-        kept = tabled .trit-table .ensures;
+        kept = tabled .trit-table .ensures .0;
       },
     )
 

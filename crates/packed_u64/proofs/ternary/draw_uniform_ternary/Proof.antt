@@ -46,7 +46,7 @@ fill-trits-requires c κs =
     let judged = made .before .before .before in
     let minus = made .before .minus-one .result in (
       good judged .0,
-      record { paired = made-paired 0 (minus ∷ 0 ∷ 1 ∷ []) (omega arith) (made .trits .ensures); kept = tabled .trit-table .ensures },
+      record { paired = made-paired 0 (minus ∷ 0 ∷ 1 ∷ []) (omega arith) (made .trits .ensures); kept = tabled .trit-table .ensures .0 },
     )
 
 sub-rejected-bytes : tie.Need-sub-rejected-bytes
