@@ -273,9 +273,9 @@ pub fn trit_table() -> [u32; 243]
 
 // How the trits of a byte are found.
 pub enum TritsBy {
-    // The engine's way.
+    // In the table: the engine's way.
     Table,
-    // As the Rust does it.
+    // By dividing the byte, as the Rust finds them.
     Division,
 }
 
@@ -286,6 +286,7 @@ pub struct Places {
     pub last: usize,
 }
 
+// A group, to be cut into places.
 fn wide(x: u32) -> usize
     ensures { λ r. ⌜ r ≡ x ⌝ }
 {
@@ -299,7 +300,7 @@ pub fn places_of(by: TritsBy, table: &[u32; 243], byte: u8) -> Places
     let at = byte as usize;
     match by {
         TritsBy::Table => {
-            let accepted = (byte < 243) as usize;
+            let accepted = (at < ACCEPTED as usize) as usize;
             let group = wide(table[at * accepted]);
             Places {
                 first: group % 256,

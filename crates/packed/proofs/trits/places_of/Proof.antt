@@ -21,6 +21,6 @@ returns-2 c = rw (c .enum-told2 .given .1)
 pub places-of-spec : {M : Type 1} → statement M
 places-of-spec =
     tie.close
-    (tie.spec (λ c. search needs) (λ c. search needs) (λ c. omega (arith, index-below (c .before .before .args .byte)))
+    (tie.spec (λ c. search needs) (λ c. search needs) (λ c. search needs) (λ c. omega (arith, index-below (c .before .before .args .byte)))
     (λ c. omega (arith, index-below (c .before .before .args .byte))) (λ c. index-below (c .before .before .args .byte)) (λ c κs. search needs)
     (λ c. search needs) (λ c. search needs) (λ c. search needs) (λ c. search needs) returns returns-2)
