@@ -15,7 +15,7 @@ ROOT = Path(__file__).resolve().parent.parent
 PAGE = ROOT / "docs" / "trits.txt"
 STORED = ROOT / "crates" / "trit_page" / "stdout"
 CONSTANT = ROOT / "crates" / "packed" / "src" / "trits.rt"
-HEAD = "const TRITS: [u32; 243] = [\n"
+HEAD = "const TRITS: TritTable = [\n"
 
 
 def groups():

@@ -15,9 +15,12 @@ const D3: u32 = 1536;
 
 const D4: u32 = 131072;
 
+// A number for each byte from 0 to 242.
+pub type TritTable = [u32; 243];
+
 // "243 groups of five digits, 1,215 numbers": the digits of each byte from 0 to 242 in base 3, lowest first, as the program `trit_page` works them out and prints
 // them. A group is kept in one number, its digits by their weights, so that a draw finds the trits of a byte by one look into the table.
-const TRITS: [u32; 243] = [
+const TRITS: TritTable = [
     0 * D0 + 0 * D1 + 0 * D2 + 0 * D3 + 0 * D4,
     1 * D0 + 0 * D1 + 0 * D2 + 0 * D3 + 0 * D4,
     2 * D0 + 0 * D1 + 0 * D2 + 0 * D3 + 0 * D4,
@@ -264,7 +267,7 @@ const TRITS: [u32; 243] = [
 ];
 
 // The table, for a draw to look into.
-pub fn trit_table() -> [u32; 243]
+pub fn trit_table() -> TritTable
     ensures { λ r. ⌜ r ≡ keptTable ⌝ }
     ensures { λ r. ⌜ TableRule r ⌝ }
 {
@@ -294,7 +297,7 @@ fn wide(x: u32) -> usize
 }
 
 // The places of a byte's trits. A byte that is skipped has places too, so that nothing branches on it: in the table those of the byte 0.
-pub fn places_of(by: TritsBy, table: &[u32; 243], byte: u8) -> Places
+pub fn places_of(by: TritsBy, table: &TritTable, byte: u8) -> Places
     ensures { λ r. ⌜ r ≡ placesBy by (now (table .entry)) byte ⌝ }
 {
     let at = byte as usize;

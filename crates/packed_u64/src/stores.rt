@@ -3,6 +3,7 @@ use crate::Out;
 use packed::bytes::ACCEPTED;
 use packed::bytes::Ended;
 use packed::bytes::WordsStored;
+use packed::trits::TritTable;
 use packed::trits::TritsBy;
 use packed::trits::places_of;
 use packed::width::Width;
@@ -52,7 +53,7 @@ fn store_trits(
     at: usize,
     pairs: &[Out],
     by: TritsBy,
-    groups: &[u32; 243],
+    groups: &TritTable,
     byte: u32,
 )
     requires { ⌜ (at + 5 ≤ length (now output)) × (byte < 256) × TritTables zero (now pairs) (now groups) ⌝ }
@@ -73,7 +74,7 @@ fn store_byte(
     at: usize,
     pairs: &[Out],
     by: TritsBy,
-    groups: &[u32; 243],
+    groups: &TritTable,
     byte: u32,
 ) -> usize
     requires { ⌜ (at + 5 ≤ length (now output)) × (byte < 256) × TritTables zero (now pairs) (now groups) ⌝ }
@@ -90,7 +91,7 @@ fn store_word(
     at: usize,
     pairs: &[Out],
     by: TritsBy,
-    groups: &[u32; 243],
+    groups: &TritTable,
     word: u32,
 ) -> usize
     requires { ⌜ (at + 20 ≤ length (now output)) × TritTables zero (now pairs) (now groups) ⌝ }
@@ -175,7 +176,7 @@ fn store_words(
     output: &mut [Out],
     pairs: &[Out],
     by: TritsBy,
-    groups: &[u32; 243],
+    groups: &TritTable,
     words: &[u32],
     place: usize,
 ) -> WordsStored
@@ -212,7 +213,7 @@ fn fill_bytes(
     from: usize,
     pairs: &[Out],
     by: TritsBy,
-    groups: &[u32; 243],
+    groups: &TritTable,
     words: &[u32],
     place: usize,
 ) -> Ended
@@ -269,7 +270,7 @@ pub(crate) fn fill_trits(
     output: &mut [Out],
     pairs: &[Out],
     by: TritsBy,
-    groups: &[u32; 243],
+    groups: &TritTable,
     words: &[u32],
     place: usize,
 ) -> Ended
