@@ -4,8 +4,8 @@ use mathlib.Core.List.{List, [], _∷_, _++_, map, append-nil}
 use Prim.Native.Nat.{ℕ, zero, suc, _+_, _<_, _≤_}
 use native.Mathlib.Numerals.{add-one}
 use native.Mathlib.Omega.{arith}
-use lib.ListN.{length, getD, take, drop, set, replicate, length-append, length-take, length-drop, length-replicate, getD-replicate}
-use lib.Seq.{drop-cons, set-at, length-take-le, append-snoc, take-suc, drop-length, take-all, paste, take-at, drop-at, take-add, drop-drop}
+use lib.ListN.{length, getD, take, drop, set, replicate, length-append, length-take, length-drop, drop-of-length-le, length-replicate, getD-replicate}
+use lib.Seq.{sets, sets-eq, drop-cons, set-at, length-take-le, append-snoc, take-suc, drop-length, take-all, paste, take-at, drop-at, take-add, drop-drop}
 
 module _ {A : Type 0} where
   -- the first i elements of xs are written
@@ -25,6 +25,11 @@ module _ {A : Type 0} where
       ∙ set-at (take i xs) (getD out i d) (drop (suc i) out) (getD xs i d) i (length-take-le i xs (omega arith))
       ∙ sym (append-snoc (take i xs) (getD xs i d) (drop (suc i) out))
       ∙ ap (λ (l : List A). l ++ drop (suc i) out) (sym (take-suc xs i d h))
+
+  -- a store into each place leaves nothing of what was there
+  pub sets-all : (out xs : List A) → length xs ≡ length out → sets out 0 xs ≡ xs
+  sets-all out xs e =
+      sets-eq xs out 0 (omega arith) ∙ ap (λ (l : List A). xs ++ l) (drop-of-length-le out {i = 0 + length xs} (omega arith)) ∙ append-nil xs
 
   pub written-all : (xs out : List A) → length xs ≡ length out → written xs (length out) out ≡ xs
   written-all xs out h =

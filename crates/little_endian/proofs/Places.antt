@@ -1,12 +1,12 @@
 -- Coefficients written one after the other, each into its eight bytes.
 use mathlib.Core.Path.{_≡_, sym, ap, _∙_}
-use mathlib.Core.List.{List, [], _∷_, _++_, map, append-nil, append-assoc}
+use mathlib.Core.List.{List, [], _∷_, _++_, map, append-assoc}
 use Prim.Native.Nat.{ℕ, suc, _+_, _-_, _*_, _/_, _%_, _^_, _<_, _≤_}
 use native.Mathlib.Nat.{le-refl, mul-comm, mod-eq-of-lt, div-div-eq-div-mul}
 use native.Mathlib.Omega.{arith}
 use borrow.Rule.Slice.PartMut.{putMid}
-use lib.ListN.{length, getD, take, drop, drop-of-length-le, length-map, List·getD-map}
-use lib.Seq.{sets, sets-eq, drop-cons, drop-drop, take-take, take-at}
+use lib.ListN.{length, getD, take, drop, length-map, List·getD-map}
+use lib.Seq.{drop-cons, drop-drop, take-take, take-at}
 use lib.IntN.{ℤ, pos}
 use Rattle.distr.specs.Packed.{digits, split}
 use Rattle.distr.specs.Encoding.{encode}
@@ -42,11 +42,6 @@ eight-digits x h =
       div-div-eq-div-mul x (2 ^ 48) 256,
       mod-eq-of-lt {n = x / 2 ^ 56} {m = 256} (omega arith),
     )
-
--- a store into each place leaves nothing of what was there
-pub stored-all : (l vs : List ℕ) → length vs ≡ length l → sets l 0 vs ≡ vs
-stored-all l vs e =
-    sets-eq vs l 0 (omega arith) ∙ ap (λ (t : List ℕ). vs ++ t) (drop-of-length-le l {i = 0 + length vs} (omega arith)) ∙ append-nil vs
 
 -- ---- a part that was lent
 

@@ -7,7 +7,7 @@ use native.Mathlib.Numerals.{add-one}
 use native.Mathlib.Omega.{arith}
 use borrow.Rule.Slice.PartMut.{putMid}
 use lib.ListN.{length, drop, length-append, length-drop, drop-of-length-le}
-use lib.Seq.{sets, sets-eq, drop-drop, take-at, drop-at}
+use lib.Seq.{drop-drop, take-at, drop-at}
 use Rattle.distr.specs.Packed.{digits}
 use Rattle.packed.specs.TritTable.{countUp, tritTable}
 use Rattle.trit_page.specs.Page.{lineOf, pageText}
@@ -40,11 +40,6 @@ lines-more from (suc count) =
     ∙ sym (append-assoc (lineAt from) (lines (suc from) count) (lineAt (from + suc count)))
 
 -- ---- into a page
-
--- a store into each place leaves nothing of what was there
-pub stored-all : (l vs : List ℕ) → length vs ≡ length l → sets l 0 vs ≡ vs
-stored-all l vs e =
-    sets-eq vs l 0 (omega arith) ∙ ap (λ (t : List ℕ). vs ++ t) (drop-of-length-le l {i = 0 + length vs} (omega arith)) ∙ append-nil vs
 
 -- a page on which the lines of the bytes below one stand
 abbrev pub printed : ℕ → List ℕ → List ℕ

@@ -3,13 +3,14 @@ use mathlib.Core.Path.{_∙_, sym}
 use native.Mathlib.Omega.{arith}
 use borrow.Author.Needs.{needs}
 use lib.ListN.{length-set}
-use Rattle.little_endian.proofs.Places.{eightBytes, eight-digits, stored-all}
+use Rattle.distr.proofs.Writing.{sets-all}
+use Rattle.little_endian.proofs.Places.{eightBytes, eight-digits}
 use Rattle.little_endian.proofs.coefficients.write_u64.Statement.{statement}
 use Rattle.little_endian.proofs.coefficients.write_u64.Tie as tie
 
 returns : tie.Need-returns
 returns c =
-    stored-all (c .args .bytes .now) (eightBytes (c .args .value)) (sym (c .pre)) ∙ eight-digits (c .args .value) (omega (arith, c .fits .value))
+    sets-all (c .args .bytes .now) (eightBytes (c .args .value)) (sym (c .pre)) ∙ eight-digits (c .args .value) (omega (arith, c .fits .value))
 
 pub write-u64-spec : {M : Type 1} → statement M
 write-u64-spec =

@@ -6,8 +6,8 @@ use native.Mathlib.Omega.{arith}
 use borrow.Author.Needs.{needs}
 use lib.ListN.{length-set}
 use Rattle.distr.specs.Packed.{digits}
+use Rattle.distr.proofs.Writing.{sets-all}
 use Rattle.trit_page.specs.Page.{lineOf}
-use Rattle.trit_page.proofs.Lines.{stored-all}
 use Rattle.trit_page.proofs.page.write_line.Statement.{statement}
 use Rattle.trit_page.proofs.page.write_line.Tie as tie
 
@@ -28,7 +28,7 @@ returns c =
     ∷ 10
     ∷ [] in
     let right : line ≡ lineOf (digits 3 5 (a .byte)) = cc in
-    stored-all (a .line .now) line (omega arith) ∙ right
+    sets-all (a .line .now) line (omega arith) ∙ right
 
 pub write-line-spec : {M : Type 1} → statement M
 write-line-spec =
