@@ -8,7 +8,7 @@ use lib.IntN.{ℤ}
 use Rattle.distr.specs.declared.answer.Answer.{Answer}
 use Rattle.distr.specs.declared.secret_key_distr.SecretKeyDistr.the-variants.{UniformTernary}
 use Rattle.distr.specs.Answers.{sums, reported}
-use Rattle.distr.specs.Distribution.{Distr, secret, skipsOf}
+use Rattle.distr.specs.Distribution.{secret, skipsOf}
 use Rattle.distr.specs.Draw.{Outcome, outcome, signedAtOnce, encodedAtOnce, noTables}
 use Rattle.distr.specs.Contract.{Contract}
 use Rattle.common.proofs.signed.sample_uniform_ternary_values_to.Reads as table-signed
@@ -16,20 +16,19 @@ use Rattle.common.proofs.residues.sample_uniform_ternary_values_to.Reads as tab
 use Rattle.by_division.proofs.signed.sample_uniform_ternary_values_by_division_to.Reads as division-signed
 use Rattle.by_division.proofs.residues.sample_uniform_ternary_values_by_division_to.Reads as division-residues
 
-abbrev pub uniformTernary : Distr
-uniformTernary = secret UniformTernary
-
 -- ---- the contracts
 
 -- What a call of either draw does: its number, its place, what its output holds after it, and the sums of what it skipped.
-abbrev pub Meets : {A : Type 0} → Outcome A → List ℕ → ℕ → ℕ → Answer → List A → Type 0
-Meets drawn words place n answer after = (outcome answer after ≡ drawn) × (sums answer ≡ reported (answer .number) (skipsOf uniformTernary n noTables (drop place words)))
+abbrev pub Promises : {A : Type 0} → Outcome A → List ℕ → ℕ → ℕ → Answer → List A → Type 0
+Promises drawn words place n answer after = (outcome answer after ≡ drawn) × (sums answer ≡ reported (answer .number) (skipsOf (secret UniformTernary) n noTables (drop place words)))
 
+-- Signed,
 abbrev pub MeetsSigned : List ℕ → ℕ → List ℤ → Answer → List ℤ → Type 0
-MeetsSigned words place out answer after = Meets (signedAtOnce uniformTernary words place out) words place (length out) answer after
+MeetsSigned words place out answer after = Promises (signedAtOnce (secret UniformTernary) words place out) words place (length out) answer after
 
+-- and residues of a modulus.
 abbrev pub MeetsResidues : ℕ → List ℕ → ℕ → List ℕ → Answer → List ℕ → Type 0
-MeetsResidues modulus words place out answer after = Meets (encodedAtOnce uniformTernary modulus words place out) words place (length out) answer after
+MeetsResidues modulus words place out answer after = Promises (encodedAtOnce (secret UniformTernary) modulus words place out) words place (length out) answer after
 
 -- The arguments of both signed draws: output, words, place. The promise of either is what `MeetsSigned` says.
 abbrev pub SignedArguments : Type 0
