@@ -54,14 +54,14 @@ unfolding judged
 judged-zero k place out given e = rw e
 
 judged-some : {A : Type 0} (k place : ℕ) (out : List A) (given : Outcome A) → 0 < k
-    → judged k place out given ≡ record { number = k; place = place; output = out }
+    → judged k place out given ≡ record { number = k; place = place; index = 0; output = out }
 unfolding judged
 judged-some k place out given h = rw (ne-eqb k 0 (λ e. omega arith))
 
 -- what a reading wrote is settled: drawn up to the place after it, or short of words
 module _ {A : Type 0} (write : List ℤ → List A) (count place n : ℕ) (out : List A) where
   pub settled-got : (r : Read (List ℤ)) (rest : List ℕ) {at : ℕ} → count - length rest ≡ at → mapRead write r ≡ got out rest
-      → record { number = 0; place = at; output = out } ≡ settled write count place n r
+      → record { number = 0; place = at; index = 0; output = out } ≡ settled write count place n r
   unfolding settled mapRead
   settled-got (got cs left) rest p e =
       let same : got (write cs) left ≡ got out rest = e in
@@ -71,7 +71,7 @@ module _ {A : Type 0} (write : List ℤ → List A) (count place n : ℕ) (out :
   settled-got short rest p e = absurd (short-not-got e)
 
   pub settled-short : (r : Read (List ℤ)) → mapRead write r ≡ short → out ≡ write (replicate n (pos 0))
-      → record { number = 23; place = place; output = out } ≡ settled write count place n r
+      → record { number = 23; place = place; index = 0; output = out } ≡ settled write count place n r
   unfolding settled mapRead
   settled-short (got cs left) e z = absurd (short-not-got (sym e))
   settled-short short e z = rw z
@@ -85,7 +85,7 @@ module _ {A : Type 0} (write : List ℤ → List A) (number : ℕ) (rules : List
   passed h k = rw (le-ltb (length words) place h, le-ltb 65536 (length out) k)
 
   -- the draw's own number
-  pub read-own : place ≤ length words → length out ≤ 65536 → 0 < number → readDraw write number rules words place out ≡ record { number = number; place = place; output = out }
+  pub read-own : place ≤ length words → length out ≤ 65536 → 0 < number → readDraw write number rules words place out ≡ record { number = number; place = place; index = 0; output = out }
   read-own h k l = passed h k ∙ rw (first-some number [] l) (judged-some number place out _ l)
 
   -- accepted: what the rules give is settled
@@ -96,23 +96,23 @@ module _ {A : Type 0} (write : List ℤ → List A) (number : ℕ) (rules : List
 
   -- enough words or not
   pub read-got : place ≤ length words → length out ≤ 65536 → number ≡ 0 → (cs : List ℤ) (rest : List ℕ) → rules (drop place words) ≡ got cs rest
-      → readDraw write number rules words place out ≡ record { number = 0; place = length words - length rest; output = write cs }
+      → readDraw write number rules words place out ≡ record { number = 0; place = length words - length rest; index = 0; output = write cs }
   unfolding settled
   read-got h k l cs rest e = read-settled h k l ∙ ap (settled write (length words) place (length out)) e
 
   pub read-short : place ≤ length words → length out ≤ 65536 → number ≡ 0 → rules (drop place words) ≡ short
-      → readDraw write number rules words place out ≡ record { number = 23; place = place; output = write (replicate (length out) (pos 0)) }
+      → readDraw write number rules words place out ≡ record { number = 23; place = place; index = 0; output = write (replicate (length out) (pos 0)) }
   unfolding settled
   read-short h k l e = read-settled h k l ∙ ap (settled write (length words) place (length out)) e
 
 -- the same of a draw by one rule
 module _ {A : Type 0} (write : List ℤ → List A) (number : ℕ) (rule : Rule) (words : List ℕ) (place : ℕ) (out : List A) where
   pub rule-got : place ≤ length words → length out ≤ 65536 → number ≡ 0 → (cs : List ℤ) (rest : List ℕ) → readBy rule (drop place words) ≡ got cs rest
-      → ruleDraw write number rule words place out ≡ record { number = 0; place = length words - length rest; output = write cs }
+      → ruleDraw write number rule words place out ≡ record { number = 0; place = length words - length rest; index = 0; output = write cs }
   unfolding ruleDraw
   rule-got = read-got write number (readBy rule) words place out
 
   pub rule-short : place ≤ length words → length out ≤ 65536 → number ≡ 0 → readBy rule (drop place words) ≡ short
-      → ruleDraw write number rule words place out ≡ record { number = 23; place = place; output = write (replicate (length out) (pos 0)) }
+      → ruleDraw write number rule words place out ≡ record { number = 23; place = place; index = 0; output = write (replicate (length out) (pos 0)) }
   unfolding ruleDraw
   rule-short = read-short write number (readBy rule) words place out

@@ -53,7 +53,7 @@ invalidShape = 11
 abbrev pub invalidCumulativeTable : ℕ
 invalidCumulativeTable = 12
 
--- "13 layer tables malformed."
+-- "13 layer tables malformed"; 02 [6]: "From now on 13 covers only a wrong R or a wrong list length."
 abbrev pub invalidLayerTables : ℕ
 invalidLayerTables = 13
 
@@ -97,6 +97,16 @@ invalidCbdLength = 28
 -- whole number of items."
 abbrev pub invalidDeskRequest : ℕ
 invalidDeskRequest = 29
+
+-- 02 [6]: "It refuses with 30 an endpoint that breaks document 01, with 31 a height, with 32 a curve value."
+abbrev pub invalidEndpoint : ℕ
+invalidEndpoint = 30
+
+abbrev pub invalidHeight : ℕ
+invalidHeight = 31
+
+abbrev pub invalidCurveValue : ℕ
+invalidCurveValue = 32
 
 -- ---- limits
 

@@ -12,6 +12,7 @@ pub mod Blocks
 pub mod CenteredBinomial
 pub mod Gaussian
 pub mod Layered
+pub mod FirstWrong
 pub mod Distribution
 pub mod Encoding
 pub mod Making

@@ -5,9 +5,10 @@ use mathlib.Core.List.{List, [], _∷_, _++_}
 use lib.Dec.{leb, ltb, eqb}
 use lib.ListN.{length}
 use Rattle.distr.specs.declared.secret_key_distr.SecretKeyDistr.the-variants.{UniformBinary, Binary, SparseTernary, UniformTernary, Ternary, FixedHammingWeightBinary, BlockBinary, FixedHammingWeightTernary, FixedCompositionTernary, Gaussian}
-use Rattle.distr.specs.Constants.{outputLimit, cumulativeLimit, outputTooLong, invalidWeight, invalidBlockLength, modulusTooSmall, modulusZero, invalidShape, invalidCumulativeTable, invalidLayerTables, neverMade, placePastEnd}
+use Rattle.distr.specs.Constants.{outputLimit, cumulativeLimit, outputTooLong, invalidWeight, invalidBlockLength, modulusTooSmall, modulusZero, invalidShape, invalidCumulativeTable, invalidLayerTables, invalidEndpoint, invalidHeight, invalidCurveValue, neverMade, placePastEnd}
 use Rattle.distr.specs.Gaussian.{support, cumulativeTable}
-use Rattle.distr.specs.Layered.{layerTables}
+use Rattle.distr.specs.Layered.{Layers}
+use Rattle.distr.specs.FirstWrong.{rightSizes, wrongEndpoint, wrongHeight, wrongValue}
 use Rattle.distr.specs.Distribution.{Distr, secret, error, Tables, onDeviation}
 use Rattle.distr.specs.Making.{refuse, largest}
 
@@ -47,15 +48,35 @@ lengthNumber (error d) n = 0
 abbrev pub modulusNumber : ℕ → ℕ → ℕ
 modulusNumber most modulus = refuse (leb modulus most) modulusTooSmall
 
--- "12 cumulative table malformed"; "13 layer tables malformed".
+-- 02 [6]: "The order is 13, endpoints, heights, curve": 13, 30, 31, 32.
+unfoldable pub layerNumber : ℕ → Layers → ℕ
+layerNumber M t =
+    firstOf
+    (refuse (not (rightSizes M t)) invalidLayerTables
+    ∷ refuse (ltb (wrongEndpoint M t) (length (t .endpoints))) invalidEndpoint
+    ∷ refuse (ltb (wrongHeight t) (length (t .heights))) invalidHeight
+    ∷ refuse (ltb (wrongValue t) (length (t .curve))) invalidCurveValue
+    ∷ [])
+
+-- 02 [6]: 30, 31 and 32 come "each together with the first index that is wrong"; "index 0 accompanies every other number".
+unfoldable pub layerIndex : ℕ → Layers → ℕ → ℕ
+layerIndex M t number =
+    cond (eqb number invalidEndpoint) (wrongEndpoint M t)
+    (cond (eqb number invalidHeight) (wrongHeight t)
+    (cond (eqb number invalidCurveValue) (wrongValue t) 0))
+
+-- "12 cumulative table malformed"; 02 [6]: 30, 31 and 32 "all in 13's place".
 abbrev pub gaussianTable : ℕ → Tables → ℕ
 gaussianTable M tables =
-    cond (leb M cumulativeLimit) (refuse (not (cumulativeTable M (tables .bounds))) invalidCumulativeTable)
-    (refuse (not (layerTables M (tables .layers))) invalidLayerTables)
+    cond (leb M cumulativeLimit) (refuse (not (cumulativeTable M (tables .bounds))) invalidCumulativeTable) (layerNumber M (tables .layers))
 
 -- Tables that a distribution does not use are not judged.
 unfoldable pub tableNumber : Distr → Tables → ℕ
 tableNumber d tables = onDeviation d (λ deviation. gaussianTable (support deviation) tables) 0
+
+-- 02 [6]: the index that goes with a draw's number. A Gaussian's M is its largest magnitude; no other draw has a number that names an index.
+abbrev pub tableIndex : Distr → Tables → ℕ → ℕ
+tableIndex d tables number = layerIndex (largest d) (tables .layers) number
 
 -- "22 place past the end of the words."
 abbrev pub pastEnd : ℕ → ℕ → ℕ

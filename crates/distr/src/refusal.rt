@@ -47,3 +47,10 @@ pub const INVALID_CBD_LENGTH: u32 = 28;
 
 // The desk's entry of 02 [4].
 pub const INVALID_DESK_REQUEST: u32 = 29;
+
+// The lists of layer tables, each with the first index that is wrong, of 02 [6].
+pub const INVALID_ENDPOINT: u32 = 30;
+
+pub const INVALID_HEIGHT: u32 = 31;
+
+pub const INVALID_CURVE_VALUE: u32 = 32;
