@@ -26,7 +26,7 @@ preparingAny Asked.Unknown = record { number = invalidSheet; method = Empty }
 unfoldable pub anyAtOnce : {A : Type 0} → AnyDistr → ℕ → List A → (Distr → Outcome A) → Outcome A
 anyAtOnce (Asked.Secret d) place out draw = atOnce (secret d) place out (draw (secret d))
 anyAtOnce (Asked.Error d) place out draw = atOnce (error d) place out (draw (error d))
-anyAtOnce Asked.Unknown place out draw = record { number = invalidSheet; place = place; output = out }
+anyAtOnce Asked.Unknown place out draw = record { number = invalidSheet; place = place; index = 0; output = out }
 
 -- 02 [1]: what a draw of the distribution skips; nothing where there is none.
 unfoldable pub anySkips : AnyDistr → (Distr → Skipped) → Skipped

@@ -220,7 +220,7 @@ module _ {A : Type 0} {write : List ℤ → List A} {z o : A} (holds : Holds wri
 
     -- a word is missing, and the output was cleared
     pub turn-short : (words : List ℕ) (place : ℕ) {out′ : List A} → length ws ≤ at → ws ≡ drop place words → out′ ≡ replicate (length out) z
-        → record { number = 23; place = place; output = out′ } ≡ settled write (length words) place n (wanted size k n (drop place words))
+        → record { number = 23; place = place; index = 0; output = out′ } ≡ settled write (length words) place n (wanted size k n (drop place words))
     turn-short words place {out′} e same c =
         settled-short write (length words) place n out′ (wanted size k n (drop place words))
         (ap (λ (l : List ℕ). mapRead write (wanted size k n l)) (sym same) ∙ sym reads
@@ -236,7 +236,7 @@ module _ {A : Type 0} {write : List ℤ → List A} {z o : A} (holds : Holds wri
         ∙ ap (λ (l : List A). got l (drop at ws)) (take-all start out (omega (arith, t .kept)))
 
     pub turn-end : (words : List ℕ) (place : ℕ) → place ≤ length words → ws ≡ drop place words
-        → record { number = 0; place = place + at; output = out } ≡ settled write (length words) place n (wanted size k n (drop place words))
+        → record { number = 0; place = place + at; index = 0; output = out } ≡ settled write (length words) place n (wanted size k n (drop place words))
     turn-end words place w same =
         settled-got write (length words) place n out (wanted size k n (drop place words)) (drop at ws)
         (omega (arith, t .within, length-drop at ws, ap length same, length-drop place words))

@@ -55,7 +55,7 @@ module _ {A : Type 0} (write : List ℤ → List A) (words : List ℕ) (place si
   number : k ≡ drawNumber (length words) place (length out) (badBlocks size (length out))
   number = number-by (length words) place (length out) j (badBlocks size (length out)) own told
 
-  pub refused : (k ≡ 0 → ⊥) → record { number = k; place = place; output = out } ≡ promised
+  pub refused : (k ≡ 0 → ⊥) → record { number = k; place = place; index = 0; output = out } ≡ promised
   refused = rule-refused write (badBlocks size (length out)) words place out number (blockBinary size occupancy (length out))
 
   pub ready : k ≡ 0 → Accepted (length words) place (length out) size

@@ -131,7 +131,7 @@ state-zero true wordCount place ns t h = rw (le-ltb wordCount place h)
 state-zero false wordCount place ns t h = absurd t
 
 judged-settled : (k place wordCount n : ℕ) (out : List ℤ) (given : Read (List ℤ)) (cs : List ℤ) (rest : List ℕ) → k ≡ 0 → given ≡ got cs rest
-    → judged k place out (settled (λ x. x) wordCount place n given) ≡ record { number = 0; place = wordCount - length rest; output = cs }
+    → judged k place out (settled (λ x. x) wordCount place n given) ≡ record { number = 0; place = wordCount - length rest; index = 0; output = cs }
 unfolding judged settled
 judged-settled k place wordCount n out given cs rest e f = rw (e, f)
 
@@ -157,7 +157,7 @@ module _ (made : Bool) (d : Distr) (n : ℕ) (bounds : List ℕ) (is-made : T ma
   -- a call on words that carry a draw list answers 0, the place where the rules stop, and what the draw list decodes to
   answered : (tables : Tables) (words : List ℕ) (place : ℕ) (ds rest : List ℕ) (out : List ℤ)
       → CallFor d bounds tables → Carries ρ words place ds rest → length out ≡ n
-      → signedDraw made d tables words place out ≡ record { number = 0; place = length words - length rest; output = ρ .decode ds }
+      → signedDraw made d tables words place out ≡ record { number = 0; place = length words - length rest; index = 0; output = ρ .decode ds }
   unfolding signedDraw ρ mapRead
   answered tables words place ds rest out f c e =
       judged-settled (firstOf (stateNumbers made (length words) place ++ signedNumbers d tables (length out))) place (length words) (length out) out

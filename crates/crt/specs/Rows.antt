@@ -30,13 +30,14 @@ unfoldable pub spreadAt : ℕ → List ℕ → ℕ → List ℕ → List ℕ
 spreadAt half out coefficientCount moduli =
     cond (eqb (length out) (coefficientCount * length moduli)) (nativeRowsAt half moduli (lastRow out coefficientCount)) out
 
--- A CRT draw whose last row was drawn with this number and place: number 0 spreads the rows, "23 keeps the place and writes zeros over the output",
+-- A CRT draw whose last row was drawn with this number, place and index: number 0 spreads the rows, "23 keeps the place and writes zeros over the output",
 -- and another leaves the output as it was.
-abbrev pub finishedAt : ℕ → List ℕ → ℕ → List ℕ → ℕ → ℕ → Outcome ℕ
-finishedAt half out coefficientCount moduli number place =
+abbrev pub finishedAt : ℕ → List ℕ → ℕ → List ℕ → ℕ → ℕ → ℕ → Outcome ℕ
+finishedAt half out coefficientCount moduli number place index =
     record {
       number = number;
       place = place;
+      index = index;
       output =
           cond (eqb number 0) (spreadAt half out coefficientCount moduli)
           (cond (eqb number outOfWords) (replicate (length out) 0) out);
@@ -49,5 +50,5 @@ fromNative modulus w = fromNativeAt (2 ^ 63) modulus w
 abbrev pub spread : List ℕ → ℕ → List ℕ → List ℕ
 spread out coefficientCount moduli = spreadAt (2 ^ 63) out coefficientCount moduli
 
-abbrev pub finished : List ℕ → ℕ → List ℕ → ℕ → ℕ → Outcome ℕ
-finished out coefficientCount moduli number place = finishedAt (2 ^ 63) out coefficientCount moduli number place
+abbrev pub finished : List ℕ → ℕ → List ℕ → ℕ → ℕ → ℕ → Outcome ℕ
+finished out coefficientCount moduli number place index = finishedAt (2 ^ 63) out coefficientCount moduli number place index

@@ -129,7 +129,7 @@ pub fn finish(
     moduli: &[u64],
     answer: Answer,
 ) -> Answer
-    ensures { λ r. ⌜ outcome r (now (output .exit)) ≡ finished (now (output .entry)) «coefficient_count» (now (moduli .entry)) (answer .number) (answer .place) ⌝ }
+    ensures { λ r. ⌜ outcome r (now (output .exit)) ≡ finished (now (output .entry)) «coefficient_count» (now (moduli .entry)) (answer .number) (answer .place) (answer .index) ⌝ }
     ensures { λ r. ⌜ r ≡ answer ⌝ }
 {
     let number = answer.number;

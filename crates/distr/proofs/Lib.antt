@@ -9,3 +9,4 @@ pub mod Drawing
 pub mod BitSums
 pub mod Rising
 pub mod Probabilities
+pub mod FirstWrong

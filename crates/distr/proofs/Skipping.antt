@@ -10,7 +10,7 @@ use lib.ListN.{length, length-drop}
 use Rattle.distr.specs.declared.answer.Answer.{Answer}
 use Rattle.distr.specs.Words.{Read, got, short, mapRead, bindRead, choose, chooseEach}
 use Rattle.distr.specs.Skipped.{Skipped, nothing, skippedWords, skippedBytes, passedOver, passedAfter, passedEach}
-use Rattle.distr.specs.Answers.{successAfter, refusal, sums, reported}
+use Rattle.distr.specs.Answers.{successAfter, refusalAt, sums, reported}
 use Rattle.distr.proofs.Reading.{short-not-got, chose}
 
 -- ---- how many words choices take
@@ -45,7 +45,7 @@ each-counts (k ∷ ks) ws ss rest e = by-choice (choose k ws) refl e (λ left mo
 -- ---- what an answer reports
 
 -- a refusal reports zeros
-pub reports-refused : (s : Skipped) {r : Answer} {k place : ℕ} → (k ≡ 0 → ⊥) → r ≡ refusal k place → sums r ≡ reported (r .number) s
+pub reports-refused : (s : Skipped) {r : Answer} {k place index : ℕ} → (k ≡ 0 → ⊥) → r ≡ refusalAt k place index → sums r ≡ reported (r .number) s
 unfolding reported
 reports-refused s {r} {k} some e = rw (e, ne-eqb k 0 some)
 

@@ -17,7 +17,8 @@ use Rattle.distr.specs.Gaussian.{rising, cumulativeTable, magnitude, withSign, 
 use Rattle.distr.specs.Layered.{Layers, layerCount, heightList, curveList, layerTables, judge, Tried, kept, rejected, try, orElse, tries, layeredOne, layered}
 use Rattle.distr.specs.Distribution.{Tables, gaussianRead}
 use Rattle.distr.specs.Making.{refuse}
-use Rattle.distr.specs.Numbers.{gaussianTable}
+use Rattle.distr.specs.Numbers.{layerNumber, gaussianTable}
+use Rattle.distr.proofs.FirstWrong.{layer-good}
 use Rattle.distr.proofs.Reading.{and-left, and-right}
 use Rattle.distr.proofs.BitSums.{total-at-most, difference-at-most}
 use Rattle.distr.proofs.Rising.{rises, Rising, is-rising}
@@ -121,15 +122,11 @@ module _ (deviation : Float) (M : ℕ) (t : Layers) (good : T (layerTables M t))
 
 -- ---- by either table
 
-passes : (test : Bool) (k : ℕ) → refuse (not test) (suc k) ≡ 0 → T test
-passes true k e = tt
-passes false k e = absurd (omega arith)
-
 pub gaussian-within : (deviation : Float) (M : ℕ) (tables : Tables) → gaussianTable M tables ≡ 0
     → (n : ℕ) (ws : List ℕ) (cs : List ℤ) (rest : List ℕ) → gaussianRead deviation M tables n ws ≡ got cs rest → Within M cs
 gaussian-within deviation M tables good n ws cs rest = go (leb M cumulativeLimit) good
   where
-    go : (b : Bool) → cond b (refuse (not (cumulativeTable M (tables .bounds))) 12) (refuse (not (layerTables M (tables .layers))) 13) ≡ 0
+    go : (b : Bool) → cond b (refuse (not (cumulativeTable M (tables .bounds))) 12) (layerNumber M (tables .layers)) ≡ 0
         → cond b (readBy (cumulative M (tables .bounds) n) ws) (layered deviation (tables .layers) n ws) ≡ got cs rest → Within M cs
     go true e r = cumulative-within M (tables .bounds) n ws cs rest r
-    go false e r = layered-within deviation M (tables .layers) (passes (layerTables M (tables .layers)) 12 e) n ws cs rest r
+    go false e r = layered-within deviation M (tables .layers) (layer-good M (tables .layers) e) n ws cs rest r

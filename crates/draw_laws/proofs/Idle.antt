@@ -23,7 +23,7 @@ module _ {A : Type 0} (place : ℕ) (out : List A) where
   unfolding judged
   judged-idle k x h = go (eqb k 0)
     where
-      go : (b : Bool) → Idle place out (cond b x (record { number = k; place = place; output = out }))
+      go : (b : Bool) → Idle place out (cond b x (record { number = k; place = place; index = 0; output = out }))
       go true = h
       go false = λ never. (refl, refl)
 
@@ -70,7 +70,7 @@ module _ (tables : Tables) (words : List ℕ) (place n : ℕ) where
 
         go : (b : Bool)
             → Idle place zeros
-            (cond b (judged (firstOf numbers) place zeros (record { number = 0; place = place; output = zeros }))
+            (cond b (judged (firstOf numbers) place zeros (record { number = 0; place = place; index = 0; output = zeros }))
             (drawn (rows (modulus ∷ [])) numbers words place zeros (length zeros) (coefficients d (length zeros) tables)))
         go true = judged-idle place zeros (firstOf numbers) _ (λ never. absurd (never refl))
         go false =

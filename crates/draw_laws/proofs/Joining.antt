@@ -37,7 +37,7 @@ first-after (suc k ∷ ks) ns e = absurd (omega arith)
 
 -- a first number above 0 is the answer
 pub refused : {A : Type 0} (ns : List ℕ) {k : ℕ} (place : ℕ) (out : List A) (given : Outcome A) → firstOf ns ≡ k → 0 < k
-    → judged (firstOf ns) place out given ≡ record { number = k; place = place; output = out }
+    → judged (firstOf ns) place out given ≡ record { number = k; place = place; index = 0; output = out }
 unfolding judged
 refused ns {k} place out given e h = rw (e, ne-eqb k 0 (λ z. omega arith))
 

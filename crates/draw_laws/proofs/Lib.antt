@@ -8,5 +8,6 @@ pub mod Making
 pub mod Sampled
 pub mod Selecting
 pub mod Small
+pub mod Naming
 pub mod Held
 pub mod Idle

@@ -100,7 +100,7 @@ module _ {D M S R : Type 0} (k : Makes D M S R) where
 
     -- A draw by the sampler: 21 where making never gives it, else the draw by its method, which is the one prepared for its distribution.
     pub tested-draw : T (fitting s) → {A : Type 0} (place : ℕ) (out : List A) (draw : M → Outcome A) (answer : Bool → Outcome A)
-        → record { number = neverMade; place = place; output = out } ≡ answer false
+        → record { number = neverMade; place = place; index = 0; output = out } ≡ answer false
         → (makingNumber (k .kind (k .distrOf s)) ≡ 0 → draw (k .prepared (k .distrOf s)) ≡ answer true)
         → judged (refuse (not (good s)) neverMade) place out (draw (k .methodOf s)) ≡ answer (good s)
     unfolding judged

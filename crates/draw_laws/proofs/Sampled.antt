@@ -12,8 +12,8 @@ use Rattle.distr.specs.Constants.{neverMade}
 use Rattle.distr.specs.Distribution.{Distr, secret, error, Tables, coefficients}
 use Rattle.distr.specs.Encoding.{encode, encodeWith}
 use Rattle.distr.specs.Making.{largest}
-use Rattle.distr.specs.Numbers.{firstOf, pastEnd, tooLong, lengthNumber, modulusNumber, tableNumber}
-use Rattle.distr.specs.Draw.{Outcome, judged, drawn, readDraw, signedDraw, residueDraw, encodedDraw}
+use Rattle.distr.specs.Numbers.{firstOf, pastEnd, tooLong, lengthNumber, modulusNumber, tableNumber, layerIndex, tableIndex}
+use Rattle.distr.specs.Draw.{Outcome, judged, drawn, naming, readDraw, signedDraw, residueDraw, encodedDraw}
 use Rattle.draw_laws.proofs.Joining.{first-alone, first-within, first-after, refused, settled-same}
 use Rattle.draw_laws.proofs.Crt.{crt-unmade}
 
@@ -54,7 +54,7 @@ module _ {A : Type 0} (write : List ℤ → List A) (asked : List ℕ) (d : Dist
 
   -- what is asked refuses the draw, by j, after 22 and 6
   pub sampled-refused : {j number : ℕ} → j ≡ firstOf asked → (j ≡ 0 → ⊥) → number ≡ firstOf (pastEnd (length words) place ∷ tooLong (length out) ∷ j ∷ [])
-      → record { number = number; place = place; output = out } ≡ sampled write asked d tables words place out
+      → record { number = number; place = place; index = 0; output = out } ≡ sampled write asked d tables words place out
   unfolding before rest
   sampled-refused {j} e never n =
       let some : 0 < firstOf asked = omega arith in
@@ -74,25 +74,25 @@ module _ {A : Type 0} (write : List ℤ → List A) (asked : List ℕ) (d : Dist
 
 -- the numbers of a signed draw and of residues
 pub signed-sampled : (d : Distr) (tables : Tables) (words : List ℕ) (place : ℕ) (out : List ℤ)
-    → sampled (λ cs. cs) (lengthNumber d (length out) ∷ []) d tables words place out ≡ signedDraw true d tables words place out
+    → naming (tableIndex d tables) (sampled (λ cs. cs) (lengthNumber d (length out) ∷ []) d tables words place out) ≡ signedDraw true d tables words place out
 unfolding signedDraw firstOf
 signed-sampled d tables words place out = refl
 
 pub residues-sampled : (d : Distr) (tables : Tables) (q : ℕ) (words : List ℕ) (place : ℕ) (out : List ℕ)
-    → sampled (map (encode q)) (lengthNumber d (length out) ∷ modulusNumber (largest d) q ∷ []) d tables words place out
+    → naming (tableIndex d tables) (sampled (map (encode q)) (lengthNumber d (length out) ∷ modulusNumber (largest d) q ∷ []) d tables words place out)
     ≡ residueDraw true d tables q words place out
 unfolding firstOf
 residues-sampled d tables q words place out = refl
 
 -- 21
 pub signed-unmade : (d : Distr) (tables : Tables) (words : List ℕ) (place : ℕ) (out : List ℤ)
-    → record { number = neverMade; place = place; output = out } ≡ signedDraw false d tables words place out
-unfolding signedDraw firstOf judged
+    → record { number = neverMade; place = place; index = 0; output = out } ≡ signedDraw false d tables words place out
+unfolding signedDraw firstOf judged layerIndex
 signed-unmade d tables words place out = refl
 
 pub encoded-unmade : (d : Distr) (tables : Tables) (q : ℕ) (words : List ℕ) (place : ℕ) (out : List ℕ)
-    → record { number = neverMade; place = place; output = out } ≡ encodedDraw false d tables q words place out
-unfolding encodedDraw firstOf judged
+    → record { number = neverMade; place = place; index = 0; output = out } ≡ encodedDraw false d tables q words place out
+unfolding encodedDraw firstOf judged layerIndex
 encoded-unmade (secret d) tables q words place out = refl
 encoded-unmade (error (Gaussian deviation)) tables q words place out = refl
 encoded-unmade (error (CenteredBinomial eta)) tables q words place out =

@@ -1,4 +1,6 @@
--- The numbers that refuse a draw for its request, whatever the words, are below 22, and those that refuse any draw before a word is read below 23.
+-- The numbers that refuse a draw for its request, whatever the words, are neither 22 nor 23, and those that refuse any draw before a word is read are
+-- not 23. All but those of layer tables are below 22.
+use mathlib.Core.Path.{_≡_}
 use mathlib.Core.Bool.{Bool, true, false, not, cond, _&&_, _||_}
 use mathlib.Core.List.{List, [], _∷_, _++_}
 use Prim.Native.Nat.{ℕ, zero, suc, _+_, _-_, _%_, _^_, _<_}
@@ -10,10 +12,10 @@ use Rattle.distr.specs.declared.secret_key_distr.SecretKeyDistr.the-variants.{U
 use Rattle.distr.specs.declared.error_distribution.ErrorDistribution.the-variants.{CenteredBinomial, Gaussian as ErrorGaussian}
 use Rattle.distr.specs.Constants.{cumulativeLimit, supportLimit, etaLimit}
 use Rattle.distr.specs.Gaussian.{support, cumulativeTable}
-use Rattle.distr.specs.Layered.{layerTables}
 use Rattle.distr.specs.Distribution.{Distr, secret, error, Tables, onDeviation}
 use Rattle.distr.specs.Making.{refuse, badProbability, badProbabilities, badBlock, badDeviation, gaussianNumber, makingNumber, secretNumber, errorNumber}
-use Rattle.distr.specs.Numbers.{firstOf, pastEnd, tooLong, badWeight, lengthNumber, gaussianTable, tableNumber, stateNumbers, signedNumbers}
+use Rattle.distr.specs.Numbers.{firstOf, pastEnd, tooLong, badWeight, lengthNumber, layerNumber, gaussianTable, tableNumber, stateNumbers, signedNumbers}
+use Rattle.distr.proofs.FirstWrong.{layer-apart-22, layer-apart-23}
 
 cond-below : {most : ℕ} (b : Bool) (x y : ℕ) → x < most → y < most → cond b x y < most
 cond-below true x y h k = h
@@ -46,42 +48,61 @@ length-below (secret (FixedCompositionTernary minus ones)) n = weight-below (min
 length-below (secret (Gaussian deviation)) n = omega arith
 length-below (error d) n = omega arith
 
-gaussian-below : (M : ℕ) (tables : Tables) → gaussianTable M tables < 22
-gaussian-below M tables =
-    cond-below (leb M cumulativeLimit) _ _
-    (refuse-below (not (cumulativeTable M (tables .bounds))) 12 (omega arith))
-    (refuse-below (not (layerTables M (tables .layers))) 13 (omega arith))
+-- A number other than 22, which refuses a place, and 23, which is a lack of words.
+abbrev pub Apart : ℕ → Type 0
+Apart k = (k ≡ 22 → ⊥) × (k ≡ 23 → ⊥)
 
-pub table-below : (d : Distr) (tables : Tables) → tableNumber d tables < 22
+-- A number that is no lack of words.
+abbrev Enough : ℕ → Type 0
+Enough k = k ≡ 23 → ⊥
+
+pub below-apart : {k : ℕ} → k < 22 → Apart k
+below-apart h = (λ e. omega arith, λ e. omega arith)
+
+-- the first of numbers that all have a property has it
+first-either : (P : ℕ → Type 0) (k : ℕ) (ns : List ℕ) → P k → P (firstOf ns) → P (firstOf (k ∷ ns))
+unfolding firstOf
+first-either P zero ns p q = q
+first-either P (suc k) ns p q = p
+
+gaussian-apart : (M : ℕ) (tables : Tables) → Apart (gaussianTable M tables)
+gaussian-apart M tables = go (leb M cumulativeLimit)
+  where
+    go : (b : Bool) → Apart (cond b (refuse (not (cumulativeTable M (tables .bounds))) 12) (layerNumber M (tables .layers)))
+    go true = below-apart (refuse-below (not (cumulativeTable M (tables .bounds))) 12 (omega arith))
+    go false = (layer-apart-22 M (tables .layers), layer-apart-23 M (tables .layers))
+
+pub table-apart : (d : Distr) (tables : Tables) → Apart (tableNumber d tables)
 unfolding tableNumber onDeviation
-table-below (secret UniformBinary) tables = omega arith
-table-below (secret (Binary p)) tables = omega arith
-table-below (secret SparseTernary) tables = omega arith
-table-below (secret UniformTernary) tables = omega arith
-table-below (secret (Ternary minus plus)) tables = omega arith
-table-below (secret (FixedHammingWeightBinary h)) tables = omega arith
-table-below (secret (BlockBinary size occupancy)) tables = omega arith
-table-below (secret (FixedHammingWeightTernary h)) tables = omega arith
-table-below (secret (FixedCompositionTernary minus ones)) tables = omega arith
-table-below (secret (Gaussian deviation)) tables = gaussian-below (support deviation) tables
-table-below (error (ErrorGaussian deviation)) tables = gaussian-below (support deviation) tables
-table-below (error (CenteredBinomial eta)) tables = omega arith
+table-apart (secret UniformBinary) tables = below-apart (omega arith)
+table-apart (secret (Binary p)) tables = below-apart (omega arith)
+table-apart (secret SparseTernary) tables = below-apart (omega arith)
+table-apart (secret UniformTernary) tables = below-apart (omega arith)
+table-apart (secret (Ternary minus plus)) tables = below-apart (omega arith)
+table-apart (secret (FixedHammingWeightBinary h)) tables = below-apart (omega arith)
+table-apart (secret (BlockBinary size occupancy)) tables = below-apart (omega arith)
+table-apart (secret (FixedHammingWeightTernary h)) tables = below-apart (omega arith)
+table-apart (secret (FixedCompositionTernary minus ones)) tables = below-apart (omega arith)
+table-apart (secret (Gaussian deviation)) tables = gaussian-apart (support deviation) tables
+table-apart (error (ErrorGaussian deviation)) tables = gaussian-apart (support deviation) tables
+table-apart (error (CenteredBinomial eta)) tables = below-apart (omega arith)
 
 long-below : (n : ℕ) → tooLong n < 22
 long-below n = refuse-below (ltb 65536 n) 6 (omega arith)
 
 -- a signed draw's
-pub signed-below : (d : Distr) (tables : Tables) (n : ℕ) → firstOf (signedNumbers d tables n) < 22
+pub signed-apart : (d : Distr) (tables : Tables) (n : ℕ) → Apart (firstOf (signedNumbers d tables n))
 unfolding firstOf
-signed-below d tables n =
-    first-below (tooLong n) (lengthNumber d n ∷ tableNumber d tables ∷ []) (long-below n)
-    (first-below (lengthNumber d n) (tableNumber d tables ∷ []) (length-below d n) (first-below (tableNumber d tables) [] (table-below d tables) (omega arith)))
+signed-apart d tables n =
+    first-either Apart (tooLong n) (lengthNumber d n ∷ tableNumber d tables ∷ []) (below-apart (long-below n))
+    (first-either Apart (lengthNumber d n) (tableNumber d tables ∷ []) (below-apart (length-below d n))
+    (first-either Apart (tableNumber d tables) [] (table-apart d tables) (below-apart (omega arith))))
 
 -- with 21 and 22 before them
-pub state-below : (made : Bool) (wordCount place : ℕ) (ns : List ℕ) → firstOf ns < 22 → firstOf (stateNumbers made wordCount place ++ ns) < 23
-state-below made wordCount place ns h =
-    first-below (refuse (not made) 21) (pastEnd wordCount place ∷ ns) (refuse-below (not made) 21 (omega arith))
-    (first-below (pastEnd wordCount place) ns (refuse-below (ltb wordCount place) 22 (omega arith)) (omega arith))
+pub state-apart : (made : Bool) (wordCount place : ℕ) (ns : List ℕ) → Enough (firstOf ns) → Enough (firstOf (stateNumbers made wordCount place ++ ns))
+state-apart made wordCount place ns h =
+    first-either Enough (refuse (not made) 21) (pastEnd wordCount place ∷ ns) (λ e. omega (arith, refuse-below {most = 22} (not made) 21 (omega arith)))
+    (first-either Enough (pastEnd wordCount place) ns (λ e. omega (arith, refuse-below {most = 23} (ltb wordCount place) 22 (omega arith))) h)
 
 -- and the numbers of making
 deviation-below : (deviation : Float) → gaussianNumber deviation < 22

@@ -83,7 +83,7 @@ module _ (wordCount place n weight : ℕ) (p : Plan) {r : Planning} {q : Plan} (
 
 module _ {A : Type 0} (write : List ℤ → List A) (rule : Rule) (words : List ℕ) (place weight : ℕ) (out : List A) {k : ℕ}
     (number : k ≡ weightNumber (length words) place (length out) weight) where
-  pub refused : (k ≡ 0 → ⊥) → record { number = k; place = place; output = out } ≡ ruleDraw write (badWeight weight (length out)) rule words place out
+  pub refused : (k ≡ 0 → ⊥) → record { number = k; place = place; index = 0; output = out } ≡ ruleDraw write (badWeight weight (length out)) rule words place out
   refused = rule-refused write (badWeight weight (length out)) words place out number rule
 
   pub accepted : k ≡ 0 → settled write (length words) place (length out) (readBy rule (drop place words))

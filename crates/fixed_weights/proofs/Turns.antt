@@ -62,12 +62,12 @@ module _ {A : Type 0} (words : List ℕ) (n : ℕ) (goal : Read (List A)) where
 module _ {A : Type 0} (z : A) (words : List ℕ) (place n : ℕ) (reading : List ℕ → Read (List A)) where
   pub placed-got : (next : ℕ) (out : List A) → place ≤ length words → next ≤ length (lentFrom words place)
       → reading (lentFrom words place) ≡ got out (drop next (lentFrom words place))
-      → _≡_ {A = Outcome A} (record { number = 0; place = place + next; output = out }) (placed z (length words) place n (reading (drop place words)))
+      → _≡_ {A = Outcome A} (record { number = 0; place = place + next; index = 0; output = out }) (placed z (length words) place n (reading (drop place words)))
   unfolding placed
   placed-got next out w h e = rw (ap reading (sym (lent-all words place)) ∙ e, lent-place words place next w h)
 
   pub placed-short : reading (lentFrom words place) ≡ short
-      → _≡_ {A = Outcome A} (record { number = 23; place = place; output = replicate n z }) (placed z (length words) place n (reading (drop place words)))
+      → _≡_ {A = Outcome A} (record { number = 23; place = place; index = 0; output = replicate n z }) (placed z (length words) place n (reading (drop place words)))
   unfolding placed
   placed-short e = rw (ap reading (sym (lent-all words place)) ∙ e)
 

@@ -51,8 +51,8 @@ insertSigns value (suc m) w left xs ws =
 -- The answer of a draw of n values begun at `place` in `wordCount` words: the values and the place where the words left begin, or 23, the
 -- old place and zeros.
 unfoldable pub placed : {A : Type 0} → A → ℕ → ℕ → ℕ → Read (List A) → Outcome A
-placed z wordCount place n (got xs rest) = record { number = 0; place = wordCount - length rest; output = xs }
-placed z wordCount place n short = record { number = outOfWords; place = place; output = replicate n z }
+placed z wordCount place n (got xs rest) = record { number = 0; place = wordCount - length rest; index = 0; output = xs }
+placed z wordCount place n short = record { number = outOfWords; place = place; index = 0; output = replicate n z }
 
 -- The reading of a plan into n values, which `table` holds by their codes.
 abbrev pub inserting : {A : Type 0} → List A → A → Plan → ℕ → List ℕ → Read (List A)

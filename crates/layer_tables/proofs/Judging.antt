@@ -1,19 +1,12 @@
 -- A test of a whole list as a loop makes it: `ok` and the test of what is left stand for the test of the whole.
-use mathlib.Core.Path.{_≡_, refl, sym, ap, _∙_}
+use mathlib.Core.Path.{_≡_, sym, ap, _∙_}
 use mathlib.Core.Bool.{Bool, true, _&&_, and-assoc, and-true}
 use mathlib.Core.List.{List, [], _∷_}
-use Prim.Native.Nat.{ℕ, zero, suc, _+_, _-_, _<_, _≤_}
-use native.Mathlib.Nat.{not-suc-le-zero, le-of-suc-le-suc}
+use Prim.Native.Nat.{ℕ, suc, _+_, _-_, _<_, _≤_}
 use native.Mathlib.Numerals.{add-one}
 use native.Mathlib.Omega.{arith}
 use lib.ListN.{length, getD, drop, drop-of-length-le, length-drop}
 use lib.Seq.{drop-cons}
-
--- an element that is there, whatever stands for a missing one
-pub getD-there : {A : Type 0} (xs : List A) (i : ℕ) (d e : A) → i < length xs → getD xs i d ≡ getD xs i e
-getD-there [] i d e h = absurd (not-suc-le-zero h)
-getD-there (x ∷ xs) zero d e h = refl
-getD-there (x ∷ xs) (suc i) d e h = getD-there xs i d e (le-of-suc-le-suc h)
 
 -- what a test of neighbours has come to: what is left begins one element back
 abbrev pub Paired : {A : Type 0} → (List A → Bool) → Bool → ℕ → List A → Type 0

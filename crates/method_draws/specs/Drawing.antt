@@ -13,8 +13,8 @@ use Rattle.distr.specs.CenteredBinomial.{centeredBinomial}
 use Rattle.distr.specs.Distribution.{Distr, secret, error, Tables, gaussianRead, gaussianSkips}
 use Rattle.distr.specs.Making.{makingNumber}
 use Rattle.distr.specs.Constants.{neverMade}
-use Rattle.distr.specs.Numbers.{badWeight, badBlocks, gaussianTable}
-use Rattle.distr.specs.Draw.{Outcome, readDraw, ruleDraw}
+use Rattle.distr.specs.Numbers.{badWeight, badBlocks, layerIndex, gaussianTable}
+use Rattle.distr.specs.Draw.{Outcome, naming, readDraw, ruleDraw}
 use Rattle.words.specs.Reading.{thresholdValue}
 use Rattle.ternary.specs.Sampler.{samplerRule}
 use Rattle.centered_binomial.specs.Binomial.{binomialDraw}
@@ -51,10 +51,11 @@ methodDraw write (FixedHammingWeightTernary h) tables words place out =
 methodDraw write (FixedCompositionTernary minus ones) tables words place out =
     ruleDraw write (badWeight (minus + ones) (length out)) (fixedComposition minus ones (length out)) words place out
 methodDraw write (Gaussian parameters) tables words place out =
-    readDraw write (gaussianTable (parameters .«maximum_magnitude») tables)
-    (λ ws. gaussianRead (parameters .«standard_deviation») (parameters .«maximum_magnitude») tables (length out) ws) words place out
+    naming (layerIndex (parameters .«maximum_magnitude») (tables .layers))
+    (readDraw write (gaussianTable (parameters .«maximum_magnitude») tables)
+    (λ ws. gaussianRead (parameters .«standard_deviation») (parameters .«maximum_magnitude») tables (length out) ws) words place out)
 methodDraw write (CenteredBinomial parameters) tables words place out = binomialDraw write parameters words place out
-methodDraw write Empty tables words place out = record { number = neverMade; place = place; output = out }
+methodDraw write Empty tables words place out = record { number = neverMade; place = place; index = 0; output = out }
 
 -- 02 [1]: what is skipped while a method draws n coefficients from the words left; the empty one draws nothing.
 unfoldable pub methodSkips : SamplingMethod → Tables → ℕ → List ℕ → Skipped

@@ -30,7 +30,7 @@ module _ {A : Type 0} (write : List ℤ → List A) (own : ℕ) (words : List �
     (e : k ≡ drawNumber (length words) place (length out) own) where
   -- another number changes nothing
   pub read-refused : (rules : List ℕ → Read (List ℤ)) → (k ≡ 0 → ⊥)
-      → record { number = k; place = place; output = out } ≡ readDraw write own rules words place out
+      → record { number = k; place = place; index = 0; output = out } ≡ readDraw write own rules words place out
   unfolding judged
   read-refused rules ne = rw (← e, ne-eqb k 0 ne)
 
@@ -40,7 +40,7 @@ module _ {A : Type 0} (write : List ℤ → List A) (own : ℕ) (words : List �
   read-passed rules z = rw (← e, z)
 
   -- the same of a draw by one rule
-  pub rule-refused : (rule : Rule) → (k ≡ 0 → ⊥) → record { number = k; place = place; output = out } ≡ ruleDraw write own rule words place out
+  pub rule-refused : (rule : Rule) → (k ≡ 0 → ⊥) → record { number = k; place = place; index = 0; output = out } ≡ ruleDraw write own rule words place out
   unfolding ruleDraw
   rule-refused rule = read-refused (readBy rule)
 

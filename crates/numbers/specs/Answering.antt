@@ -28,7 +28,7 @@ numberOf own reads count place n =
 -- The answer with a number: the place moves where words were read. Such a draw skips nothing.
 abbrev pub answerBy : Bool → ℕ → ℕ → ℕ → Answer
 answerBy reads place n number =
-    record { number = number; place = cond (eqb number 0 && reads) (place + 2 * n) place; «skipped_words» = 0; «skipped_bytes» = 0 }
+    record { number = number; place = cond (eqb number 0 && reads) (place + 2 * n) place; index = 0; «skipped_words» = 0; «skipped_bytes» = 0 }
 
 abbrev pub answerOf : ℕ → Bool → ℕ → ℕ → ℕ → Answer
 answerOf own reads count place n = answerBy reads place n (numberOf own reads count place n)

@@ -43,30 +43,30 @@ module _ {A : Type 0} (write : List ℤ → List A) (f : ℤ → A) (writes : (c
     (rule : Rule) (words : List ℕ) (place : ℕ) (out : List A) {k : ℕ} (number : k ≡ drawNumber (length words) place (length out) 0) (good : k ≡ 0) where
   -- 23: the place stays, and the output is zeros
   lacking : {out′ : List A} → readBy rule (drop place words) ≡ short → out′ ≡ replicate (length out) (f (pos 0))
-      → record { number = 23; place = place; output = out′ } ≡ ruleDraw write 0 rule words place out
+      → record { number = 23; place = place; index = 0; output = out′ } ≡ ruleDraw write 0 rule words place out
   lacking e o =
       let passed = number-passed (length words) place (length out) 0 number good in
-      ap (λ (l : List A). record { number = 23; place = place; output = l }) (o ∙ sym (map-replicate f (length out) (pos 0)) ∙ sym (writes _))
+      ap (λ (l : List A). record { number = 23; place = place; index = 0; output = l }) (o ∙ sym (map-replicate f (length out) (pos 0)) ∙ sym (writes _))
       ∙ sym (rule-short write 0 rule words place out (passed .0) (passed .1) refl e)
 
   -- 0: the place after the words read, and the coefficients as the output holds them
   filled : (cs : List ℤ) (rest : List ℕ) {out′ : List A} {at : ℕ} → readBy rule (drop place words) ≡ got cs rest
-      → at ≡ length words - length rest → out′ ≡ map f cs → record { number = 0; place = at; output = out′ } ≡ ruleDraw write 0 rule words place out
+      → at ≡ length words - length rest → out′ ≡ map f cs → record { number = 0; place = at; index = 0; output = out′ } ≡ ruleDraw write 0 rule words place out
   filled cs rest e p o =
       let passed = number-passed (length words) place (length out) 0 number good in
-      ap₂ (λ (j : ℕ) (l : List A). record { number = 0; place = j; output = l }) p (o ∙ sym (writes cs))
+      ap₂ (λ (j : ℕ) (l : List A). record { number = 0; place = j; index = 0; output = l }) p (o ∙ sym (writes cs))
       ∙ sym (rule-got write 0 rule words place out (passed .0) (passed .1) refl cs rest e)
 
 -- Draws packed into m words: its number decides, and then the test of the words' number, whatever rule the entries hold the values of.
 module _ {A : Type 0} (z : A) (entry : ℕ → A) (base each m : ℕ) (words : List ℕ) (place : ℕ) (out : List A)
     {k : ℕ} (number : k ≡ drawNumber (length words) place (length out) 0) where
-  pub table-refused : (k ≡ 0 → ⊥) → DrawsByTable z entry base each m words place out (record { number = k; place = place; output = out })
+  pub table-refused : (k ≡ 0 → ⊥) → DrawsByTable z entry base each m words place out (record { number = k; place = place; index = 0; output = out })
   table-refused some = record {
     draws = λ write f value writes zeros agree. rule-refused write 0 words place out number (packed base each m (length out) value) some;
   }
 
   pub table-lacking : {out′ : List A} → k ≡ 0 → length words - place < m → out′ ≡ replicate (length out) z
-      → DrawsByTable z entry base each m words place out (record { number = 23; place = place; output = out′ })
+      → DrawsByTable z entry base each m words place out (record { number = 23; place = place; index = 0; output = out′ })
   unfolding mapRead
   table-lacking good l o = record {
     draws = λ write f value writes zeros agree.
@@ -77,7 +77,7 @@ module _ {A : Type 0} (z : A) (entry : ℕ → A) (base each m : ℕ) (words : L
 
   pub table-filled : {out′ : List A} → k ≡ 0 → 0 < base → m ≤ length words - place → length out ≤ m * each
       → out′ ≡ map entry (take (length out) (split base each (drop place words)))
-      → DrawsByTable z entry base each m words place out (record { number = 0; place = place + m; output = out′ })
+      → DrawsByTable z entry base each m words place out (record { number = 0; place = place + m; index = 0; output = out′ })
   unfolding mapRead
   table-filled good b l fits o =
       let passed = number-passed (length words) place (length out) 0 number good in
@@ -109,7 +109,7 @@ none-rejected (w ∷ ws) e = rw e
 
 pub trits-none : {A : Type 0} (write : List ℤ → List A) (f : ℤ → A) → ((cs : List ℤ) → write cs ≡ map f cs)
     → (words : List ℕ) (place : ℕ) (out : List A) {k : ℕ} → k ≡ drawNumber (length words) place (length out) 0 → k ≡ 0 → length out ≡ 0
-    → record { number = 0; place = place; output = out } ≡ ruleDraw write 0 (uniformTernary (length out)) words place out
+    → record { number = 0; place = place; index = 0; output = out } ≡ ruleDraw write 0 (uniformTernary (length out)) words place out
 trits-none write f writes words place [] number good none =
     let passed = number-passed (length words) place 0 0 number good in
     filled write f writes (uniformTernary 0) words place [] number good [] (drop place words) (none-read (drop place words))
@@ -128,7 +128,7 @@ module _ {A : Type 0} (write : List ℤ → List A) (f : ℤ → A) (writes : (c
   bytesRead = bytes (drop place words) ((length out + 4) / 5)
 
   pub trits-lacking : {out′ : List A} → short ≡ tritsRead bytesRead → out′ ≡ replicate (length out) (f (pos 0))
-      → record { number = 23; place = place; output = out′ } ≡ ruleDraw write 0 (uniformTernary (length out)) words place out
+      → record { number = 23; place = place; index = 0; output = out′ } ≡ ruleDraw write 0 (uniformTernary (length out)) words place out
   unfolding mapRead
   trits-lacking e o = lacking write f writes (uniformTernary (length out)) words place out number good (go bytesRead e) o
     where
@@ -138,12 +138,12 @@ module _ {A : Type 0} (write : List ℤ → List A) (f : ℤ → A) (writes : (c
 
   pub trits-filled : {out′ : List A} {at : ℕ} → ((d : ℕ) → d < 3 → entry d ≡ f (tritValue d)) → at ≤ length words
       → got out′ (drop at words) ≡ tritsRead bytesRead
-      → record { number = 0; place = at; output = out′ } ≡ ruleDraw write 0 (uniformTernary (length out)) words place out
+      → record { number = 0; place = at; index = 0; output = out′ } ≡ ruleDraw write 0 (uniformTernary (length out)) words place out
   unfolding mapRead
   trits-filled {out′} {at} agree h e = go bytesRead refl e
     where
       go : (r : Read (List ℕ)) → bytesRead ≡ r → got out′ (drop at words) ≡ tritsRead r
-          → record { number = 0; place = at; output = out′ } ≡ ruleDraw write 0 (uniformTernary (length out)) words place out
+          → record { number = 0; place = at; index = 0; output = out′ } ≡ ruleDraw write 0 (uniformTernary (length out)) words place out
       go (got ds rest) b p =
           let n : ℕ = length out in
           let held : ℕ → A = λ d. f (tritValue d) in

@@ -43,10 +43,10 @@ module _ (out : List ℕ) (count : ℕ) where
   -- so the output is finished from the row that was drawn
   pub finished-lent : (moduli : List ℕ) (draw : List ℕ → Outcome ℕ) {last : ℕ} (answer : Answer) (ys : List ℕ) → last ≡ length out - count
       → outcome answer ys ≡ draw (midOf last (length out - last) out)
-      → finished (putMid last (length out - last) out ys) count moduli (answer .number) (answer .place)
+      → finished (putMid last (length out - last) out ys) count moduli (answer .number) (answer .place) (answer .index)
       ≡ finishedRow out count moduli (draw (lastRow out count))
   finished-lent moduli draw answer ys e drawn =
-      ap (λ (l : List ℕ). finished l count moduli (answer .number) (answer .place)) (put-back ys e)
+      ap (λ (l : List ℕ). finished l count moduli (answer .number) (answer .place) (answer .index)) (put-back ys e)
       ∙ ap (finishedRow out count moduli) (drawn ∙ ap draw (lent-row e))
 
   pub length-row : length (lastRow out count) ≡ length out - (length out - count)
@@ -106,7 +106,7 @@ module _ (method : SamplingMethod) (tables : Tables) (count : ℕ) (moduli words
   -- none does
   pub method-drawn : k ≡ 0 → {last : ℕ} (answer : Answer) (ys : List ℕ) → last ≡ length out - count
       → outcome answer ys ≡ rowDraw method tables words place (midOf last (length out - last) out)
-      → (o : Outcome ℕ) → o ≡ finished (putMid last (length out - last) out ys) count moduli (answer .number) (answer .place)
+      → (o : Outcome ℕ) → o ≡ finished (putMid last (length out - last) out ys) count moduli (answer .number) (answer .place) (answer .index)
       → o ≡ crtBy method tables count moduli words place out
   unfolding crtBy judged
   method-drawn z answer ys l drawn o f =

@@ -14,8 +14,8 @@ use Rattle.distr.specs.Skipped.{Skipped}
 use Rattle.distr.specs.Answers.{sums, reported}
 use Rattle.distr.specs.Distribution.{Distr, Tables, skipsOf}
 use Rattle.distr.specs.Making.{makingNumber}
-use Rattle.distr.specs.Numbers.{lengthNumber}
-use Rattle.distr.specs.Draw.{Outcome, outcome, judged, signedDraw, encodedDraw, crtDraw, crtSkips, atOnce}
+use Rattle.distr.specs.Numbers.{lengthNumber, tableIndex}
+use Rattle.distr.specs.Draw.{Outcome, outcome, judged, naming, signedDraw, encodedDraw, crtDraw, crtSkips, atOnce}
 use Rattle.distr.proofs.Drawing.{not-refused}
 use Rattle.distr.proofs.Skipping.{reports-same}
 use Rattle.draw_laws.proofs.Crt.{crt-unmade}
@@ -58,7 +58,7 @@ pub signed-of : (tables : Tables) (words : List ℕ) (place : ℕ) (out : List �
     → methodDraw (λ cs. cs) (preparedMethod d) tables words place out ≡ signedDraw true d tables words place out
 signed-of tables words place out d z =
     prepared-draw (λ cs. cs) tables words place out d z
-    ∙ sampled-drawn (λ cs. cs) (lengthNumber d (length out) ∷ []) d tables words place out (λ cs. cs) (λ cs. refl) refl
+    ∙ ap (naming (tableIndex d tables)) (sampled-drawn (λ cs. cs) (lengthNumber d (length out) ∷ []) d tables words place out (λ cs. cs) (λ cs. refl) refl)
     ∙ signed-sampled d tables words place out
 
 pub once-draw : {A : Type 0} (d : Distr) (place : ℕ) (out : List A) (draw : SamplingMethod → Outcome A) (answer : Outcome A)
@@ -67,8 +67,8 @@ unfolding judged
 once-draw {A} d place out draw answer h = go (eqb (makingNumber d) 0) refl
   where
     go : (b : Bool) → eqb (makingNumber d) 0 ≡ b
-        → cond b (draw (cond b (preparedMethod d) Empty)) (record { number = makingNumber d; place = place; output = out })
-        ≡ cond b answer (record { number = makingNumber d; place = place; output = out })
+        → cond b (draw (cond b (preparedMethod d) Empty)) (record { number = makingNumber d; place = place; index = 0; output = out })
+        ≡ cond b answer (record { number = makingNumber d; place = place; index = 0; output = out })
     go true e = h (eqb-true (makingNumber d) 0 e)
     go false e = refl
 
@@ -125,7 +125,7 @@ module _ {D S R : Type 0} (k : Makes D SamplingMethod S R) (prepares : (d : D) �
 
     -- a draw by its method is the answer of its distribution, if a draw by the method of a distribution is the answer of that
     by-sampler : {A : Type 0} (out : List A) (draw : SamplingMethod → Outcome A) (answer : Bool → Outcome A) (skips : SamplingMethod → Skipped)
-        (skipped : Skipped) → record { number = neverMade; place = place; output = out } ≡ answer false
+        (skipped : Skipped) → record { number = neverMade; place = place; index = 0; output = out } ≡ answer false
         → (makingNumber mine ≡ 0 → draw (preparedMethod mine) ≡ answer true) → skips (preparedMethod mine) ≡ skipped
         → {r : Answer} {after : List A} → Answered r after (preparedDraw p place out draw) (skips (p .method))
         → Answered r after (answer (good k s)) skipped

@@ -1,29 +1,32 @@
 -- The distributions that CRT draws serve, a Gaussian of either sampler and the centered binomial, each with its prepared method; another gives 21.
 use mathlib.Core.Path.{_≡_, refl, sym}
-use mathlib.Core.Bool.{Bool, true, false, not, cond}
+use mathlib.Core.Bool.{Bool, true, false, cond}
 use mathlib.Core.List.{List}
 use Prim.Native.Nat.{ℕ, _<_, _≤_}
 use native.Mathlib.Omega.{arith}
 use borrow.Author.Tests.{eq-eqb, ltb-false}
-use lib.Dec.{leb, ltb}
+use lib.Dec.{ltb}
+use lib.ListN.{length}
 use lib.Ieee.{Float}
 use Rattle.distr.specs.declared.secret_key_distr.SecretKeyDistr.{SecretKeyDistr}
 use Rattle.distr.specs.declared.secret_key_distr.SecretKeyDistr.the-variants as Secret
 use Rattle.distr.specs.declared.error_distribution.ErrorDistribution.{ErrorDistribution}
 use Rattle.distr.specs.declared.error_distribution.ErrorDistribution.the-variants as Error
-use Rattle.distr.specs.Constants.{cumulativeLimit, supportLimit}
+use Rattle.distr.specs.Constants.{supportLimit}
 use Rattle.distr.specs.Words.{mapRead, many}
-use Rattle.distr.specs.Gaussian.{support, cumulativeTable}
-use Rattle.distr.specs.Layered.{layerTables}
+use Rattle.distr.specs.Gaussian.{support}
 use Rattle.distr.specs.CenteredBinomial.{binomialValue}
 use Rattle.distr.specs.Thresholds.{threshold}
 use Rattle.distr.specs.Distribution.{Distr, secret, error, Tables, onDeviation, errorRule, rule, coefficients}
 use Rattle.distr.specs.Making.{refuse, badDeviation, gaussianNumber, secretNumber, errorNumber, makingNumber, largest}
-use Rattle.distr.specs.Numbers.{firstOf, gaussianTable, servesCrt, tableNumber}
+use Rattle.distr.specs.Numbers.{firstOf, servesCrt, tableNumber, tableIndex}
 use Rattle.distr.specs.Draw.{Outcome, judged, ruleDraw, crtDraw}
 use Rattle.centered_binomial.specs.Binomial.{parametersOf}
 use Rattle.centered_binomial.proofs.Made.{eta-small}
 use Rattle.ternary.specs.Sampler.{samplerOf}
+use Rattle.distr.proofs.FirstWrong.{layer-unnamed}
+use Rattle.draw_laws.proofs.Small.{table-apart}
+use Rattle.draw_laws.proofs.Naming.{read-named}
 use Rattle.draw_laws.proofs.Crt.{crt-unmade}
 use Rattle.draw_laws.proofs.Bounds.{gaussian-within, binomial-within}
 use Rattle.methods.specs.declared.SamplingMethod.{SamplingMethod}
@@ -33,19 +36,9 @@ use Rattle.secret_key_method.specs.Method.{prepared}
 use Rattle.error_method.specs.Method.{prepared as preparedError}
 use Rattle.method_draws.specs.Drawing.{preparedMethod, methodDraw}
 use Rattle.method_draws.proofs.Drawing.{prepared-binomial}
-use Rattle.prepared_draws.specs.Drawing.{crtNumber, crtBy}
+use Rattle.prepared_draws.specs.Drawing.{crtNumber, asNative, crtBy}
 use Rattle.prepared_draws.proofs.Rows.{ternary-apart, blocks-apart}
 use Rattle.prepared_draws.proofs.Served.{words-count, gaussian-counts, gaussian-none, Serves, method-crt}
-
--- a table's number is 12 or 13, if it refuses, and so not 23
-gaussian-table : (M : ℕ) (tables : Tables) → gaussianTable M tables < 23
-gaussian-table M tables = go (leb M cumulativeLimit) (cumulativeTable M (tables .bounds)) (layerTables M (tables .layers))
-  where
-    go : (small bounds layers : Bool) → cond small (refuse (not bounds) 12) (refuse (not layers) 13) < 23
-    go true true layers = omega arith
-    go true false layers = omega arith
-    go false bounds true = omega arith
-    go false bounds false = omega arith
 
 -- the support of an accepted deviation is small
 support-small : (deviation : Float) → gaussianNumber deviation ≡ 0 → support deviation ≤ supportLimit
@@ -68,7 +61,7 @@ serves-gaussian tables deviation accepted =
       serves = refl;
       magnitude = refl;
       small = omega (arith, support-small deviation accepted);
-      table = gaussian-table (support deviation) tables;
+      table = table-apart (secret (Secret.Gaussian deviation)) tables .1;
       draws = λ words place out. refl;
       counts = gaussian-counts deviation (support deviation) tables;
       within = gaussian-within deviation (support deviation) tables;
@@ -85,8 +78,11 @@ serves-binomial tables eta accepted =
       serves = refl;
       magnitude = refl;
       small = omega (arith, eta-small eta (eq-eqb (errorNumber (Error.CenteredBinomial eta)) 0 accepted));
-      table = omega arith;
-      draws = λ words place out. rw made;
+      table = table-apart (error (Error.CenteredBinomial eta)) tables .1;
+      draws = λ words place out.
+          rw made
+          (read-named (tableIndex (error (Error.CenteredBinomial eta)) tables) (layer-unnamed eta (tables .layers)) asNative 0
+          (coefficients (error (Error.CenteredBinomial eta)) (length out) tables) words place out (omega arith));
       counts = λ n. words-count n (binomialValue eta);
       within = λ z. binomial-within eta;
       none = λ ws. refl;

@@ -20,14 +20,17 @@ use Rattle.distr.specs.Distribution.{Distr, secret, error, Tables, onDeviation,
 use Rattle.distr.specs.Encoding.{encode, encodeWith, rows}
 use Rattle.distr.specs.Constants.{modulusZero}
 use Rattle.distr.specs.Making.{refuse, largest, makingNumber}
-use Rattle.distr.specs.Numbers.{firstOf, pastEnd, tooLong, stateNumbers, lengthNumber, modulusNumber, moduliNumbers, crtNumbers, servesCrt, tableNumber}
-use Rattle.distr.specs.Draw.{Outcome, settled, judged, crtDraw, residueDraw, encodedDraw}
+use Rattle.distr.specs.Numbers.{firstOf, pastEnd, tooLong, stateNumbers, lengthNumber, modulusNumber, moduliNumbers, crtNumbers, servesCrt, tableNumber, tableIndex}
+use Rattle.distr.specs.Draw.{Outcome, settled, judged, drawn, naming, crtDraw, residueDraw, encodedDraw}
+use Rattle.distr.proofs.FirstWrong.{layer-unnamed}
 use Rattle.distr.proofs.Drawing.{first-passed, not-refused}
 use Rattle.ternary.specs.declared.ternary.TernaryValue.the-variants.{MinusOne, Zero, One}
 use Rattle.ternary.specs.declared.ternary.TernaryEnds.{TernaryEnds}
 use Rattle.ternary.specs.declared.ternary.TernaryEnds.the-variants.{Constant, Nonzero, General}
 use Rattle.ternary.specs.Sampler.{samplerOf}
 use Rattle.draw_laws.proofs.Joining.{first-after, settled-same}
+use Rattle.draw_laws.proofs.Small.{first-below, refuse-below, length-below}
+use Rattle.draw_laws.proofs.Naming.{draw-small, refusal-named}
 use Rattle.draw_laws.proofs.Writes.{encode-with}
 use Rattle.draw_laws.proofs.Crt.{rows-one, shape-good}
 use Rattle.draw_laws.proofs.Sampled.{sampled, residues-sampled, distributionNumber, sampled-refused, sampled-drawn}
@@ -77,7 +80,7 @@ asked-refuses a b j never e z =
 -- the answers of the draw, as the code tries them
 module _ (m : SamplingMethod) (tables : Tables) (q : ℕ) (words : List ℕ) (place : ℕ) (out : List ℕ) {j : ℕ} (e : j ≡ firstOf (residueNumbers m (length out) q)) where
   pub encoded-asked : (j ≡ 0 → ⊥) → {number : ℕ} → number ≡ firstOf (pastEnd (length words) place ∷ tooLong (length out) ∷ j ∷ [])
-      → record { number = number; place = place; output = out } ≡ encodedBy m tables q words place out
+      → record { number = number; place = place; index = 0; output = out } ≡ encodedBy m tables q words place out
   unfolding encodedBy
   encoded-asked never n = rw (n, ← e, ne-eqb j 0 never)
 
@@ -112,6 +115,15 @@ secret-plain (Secret.FixedHammingWeightTernary h) = refl
 secret-plain (Secret.FixedCompositionTernary minus ones) = refl
 secret-plain (Secret.Gaussian deviation) = refl
 
+-- what is asked of a distribution's residues refuses by a small number
+asked-small : (d : Distr) (n q : ℕ) → firstOf (residueNumbers (preparedMethod d) n q) < 30
+unfolding firstOf
+asked-small d n q =
+    let m = preparedMethod d in
+    first-below (lengthOf m n) (refuse (isBinomial m && eqb q 0) modulusZero ∷ modulusNumber (magnitudeOf m) q ∷ []) (omega (arith, prepared-length d n, length-below d n))
+    (first-below (refuse (isBinomial m && eqb q 0) modulusZero) (modulusNumber (magnitudeOf m) q ∷ []) (refuse-below (isBinomial m && eqb q 0) modulusZero (omega arith))
+    (first-below (modulusNumber (magnitudeOf m) q) [] (refuse-below (leb q (magnitudeOf m)) 9 (omega arith)) (omega arith)))
+
 -- where the length is good and nothing is asked, the tables' number is left
 number-left : (d : Distr) (tables : Tables) (n : ℕ) → lengthNumber d n ≡ 0 → (asked : List ℕ) → firstOf asked ≡ 0
     → distributionNumber d tables n ≡ firstOf (asked ++ (tableNumber d tables ∷ []))
@@ -131,7 +143,7 @@ module _ (tables : Tables) (q : ℕ) (words : List ℕ) (place : ℕ) (out : Lis
 
   -- an empty row reads nothing and keeps its place
   row-empty : (eta : ℕ) → length out ≡ 0 → (later : List ℕ) → firstOf (pastEnd (length words) place ∷ later) ≡ 0
-      → record { number = 0; place = place; output = out }
+      → record { number = 0; place = place; index = 0; output = out }
       ≡ settled (map (encode q)) (length words) place (length out) (coefficients (error (Error.CenteredBinomial eta)) (length out) tables (drop place words))
   unfolding settled
   row-empty eta none later z =
@@ -143,13 +155,18 @@ module _ (tables : Tables) (q : ℕ) (words : List ℕ) (place : ℕ) (out : Lis
 
   -- so the CRT draw of one row is a draw of residues
   row-sampled : (eta : ℕ)
-      → sampled (map (encode q)) (0 ∷ refuse (eqb q 0) modulusZero ∷ modulusNumber eta q ∷ []) (error (Error.CenteredBinomial eta)) tables words place out
+      → naming (tableIndex (error (Error.CenteredBinomial eta)) tables)
+      (sampled (map (encode q)) (0 ∷ refuse (eqb q 0) modulusZero ∷ modulusNumber eta q ∷ []) (error (Error.CenteredBinomial eta)) tables words place out)
       ≡ crtDraw true (error (Error.CenteredBinomial eta)) tables (length out) (q ∷ []) words place out
   unfolding crtDraw tableNumber onDeviation
-  row-sampled eta =
-      rw (row-numbers eta, first-skip (pastEnd (length words) place ∷ tooLong (length out) ∷ []) (refuse (eqb q 0) modulusZero ∷ modulusNumber eta q ∷ 0 ∷ []))
-      (go (eqb (length out) 0) refl)
+  row-sampled eta = ap (naming (tableIndex d tables)) plain-row
     where
+      d : Distr
+      d = error (Error.CenteredBinomial eta)
+
+      asked : List ℕ
+      asked = stateNumbers (true && servesCrt d) (length words) place ++ crtNumbers d tables (length out) (length out) (q ∷ [])
+
       number : ℕ
       number = firstOf (pastEnd (length words) place ∷ tooLong (length out) ∷ refuse (eqb q 0) modulusZero ∷ modulusNumber eta q ∷ 0 ∷ [])
 
@@ -158,16 +175,24 @@ module _ (tables : Tables) (q : ℕ) (words : List ℕ) (place : ℕ) (out : Lis
 
       go : (b : Bool) → eqb (length out) 0 ≡ b
           → judged number place out (settled (map (encode q)) (length words) place (length out) read)
-          ≡ cond b (judged number place out (record { number = 0; place = place; output = out }))
+          ≡ cond b (judged number place out (record { number = 0; place = place; index = 0; output = out }))
           (judged number place out (settled (rows (q ∷ [])) (length words) place (length out) read))
       go true e = same-where-zero number place out _ _ (λ z. sym (row-empty eta (eqb-true (length out) 0 e) _ z))
       go false e =
           ap (judged number place out)
           (settled-same (map (encode q)) (rows (q ∷ [])) words place out read (λ cs _ _. sym (rows-one q cs)) (sym (rows-one q (replicate (length out) (pos 0)))))
 
+      plain-row : sampled (map (encode q)) (0 ∷ refuse (eqb q 0) modulusZero ∷ modulusNumber eta q ∷ []) d tables words place out
+          ≡ cond (eqb (length out) 0) (judged (firstOf asked) place out (record { number = 0; place = place; index = 0; output = out }))
+          (drawn (rows (q ∷ [])) asked words place out (length out) (coefficients d (length out) tables))
+      plain-row =
+          rw (row-numbers eta, first-skip (pastEnd (length words) place ∷ tooLong (length out) ∷ []) (refuse (eqb q 0) modulusZero ∷ modulusNumber eta q ∷ 0 ∷ []))
+          (go (eqb (length out) 0) refl)
+
   -- residues of any other distribution are asked for their length and their modulus
   plain-sampled : (d : Distr) → isBinomial (preparedMethod d) ≡ false
-      → sampled (map (encode q)) (residueNumbers (preparedMethod d) (length out) q) d tables words place out ≡ residueDraw true d tables q words place out
+      → naming (tableIndex d tables) (sampled (map (encode q)) (residueNumbers (preparedMethod d) (length out) q) d tables words place out)
+      ≡ residueDraw true d tables q words place out
   plain-sampled d plain =
       rw (
         plain,
@@ -178,7 +203,8 @@ module _ (tables : Tables) (q : ℕ) (words : List ℕ) (place : ℕ) (out : Lis
       (residues-sampled d tables q words place out)
 
   residues-asked : (d : Distr)
-      → sampled (map (encode q)) (residueNumbers (preparedMethod d) (length out) q) d tables words place out ≡ encodedDraw true d tables q words place out
+      → naming (tableIndex d tables) (sampled (map (encode q)) (residueNumbers (preparedMethod d) (length out) q) d tables words place out)
+      ≡ encodedDraw true d tables q words place out
   unfolding encodedDraw preparedMethod preparedError
   residues-asked (secret d) = plain-sampled (secret d) (secret-plain d)
   residues-asked (error (Error.Gaussian deviation)) = plain-sampled (error (Error.Gaussian deviation)) refl
@@ -197,14 +223,19 @@ module _ (tables : Tables) (q : ℕ) (words : List ℕ) (place : ℕ) (out : Lis
 
       go : (b : Bool) → eqb asked 0 ≡ b
           → cond b (methodDraw (map (encodeWith (q - 1))) m tables words place out)
-          (record { number = firstOf (pastEnd (length words) place ∷ tooLong (length out) ∷ asked ∷ []); place = place; output = out })
+          (record { number = firstOf (pastEnd (length words) place ∷ tooLong (length out) ∷ asked ∷ []); place = place; index = 0; output = out })
           ≡ encodedDraw true d tables q words place out
       go true e =
           let none = eqb-true asked 0 e in
           let long : lengthNumber d (length out) ≡ 0 = sym (prepared-length d (length out)) ∙ residues-fit m (length out) q none in
           prepared-draw (map (encodeWith (q - 1))) tables words place out d z
-          ∙ sampled-drawn (map (encode q)) (residueNumbers m (length out) q) d tables words place out (map (encodeWith (q - 1))) (encode-with q)
-          (number-left d tables (length out) long (residueNumbers m (length out) q) none)
+          ∙ ap (naming (tableIndex d tables))
+          (sampled-drawn (map (encode q)) (residueNumbers m (length out) q) d tables words place out (map (encodeWith (q - 1))) (encode-with q)
+          (number-left d tables (length out) long (residueNumbers m (length out) q) none))
           ∙ residues-asked d
       go false e =
-          sampled-refused (map (encode q)) (residueNumbers m (length out) q) d tables words place out refl (eqb-false asked 0 e) refl ∙ residues-asked d
+          refusal-named (tableIndex d tables) (layer-unnamed (largest d) (tables .layers)) _ place out
+          (draw-small (length words) place (length out) asked (asked-small d (length out) q))
+          ∙ ap (naming (tableIndex d tables))
+          (sampled-refused (map (encode q)) (residueNumbers m (length out) q) d tables words place out refl (eqb-false asked 0 e) refl)
+          ∙ residues-asked d

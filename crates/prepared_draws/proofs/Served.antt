@@ -20,12 +20,14 @@ use borrow.Author.Tests.{lt-ltb, le-ltb, ltb-true, ltb-false}
 use lib.Seq.{length-take-le}
 use Rattle.distr.specs.Encoding.{encodeWith, rows}
 use Rattle.distr.specs.Making.{largest}
-use Rattle.distr.specs.Numbers.{firstOf, stateNumbers, servesCrt, tableNumber}
-use Rattle.distr.specs.Draw.{Outcome, settled, judged, readDraw, crtDraw}
+use Rattle.distr.specs.Numbers.{firstOf, stateNumbers, servesCrt, tableNumber, tableIndex}
+use Rattle.distr.specs.Draw.{Outcome, settled, judged, naming, readDraw, crtDraw}
+use Rattle.distr.proofs.FirstWrong.{layer-unnamed}
+use Rattle.draw_laws.proofs.Naming.{judged-naming}
 use Rattle.distr.proofs.Drawing.{read-settled, read-own, read-got}
 use Rattle.draw_laws.proofs.Bounds.{Within}
 use Rattle.draw_laws.proofs.Joining.{refused}
-use Rattle.draw_laws.proofs.Crt.{layoutNumbers, Layout, layout-passed, crt-past-end, crt-layout, crt-table, crt-empty, crt-settled}
+use Rattle.draw_laws.proofs.Crt.{layoutNumbers, layout-small, Layout, layout-passed, crtPlain, crt-named, crt-past-end, crt-layout, crt-table, crt-empty, crt-settled}
 use Rattle.crt.specs.Rows.{lastRow}
 use Rattle.crt.proofs.Finishing.{finished-kept, finished-settled}
 use Rattle.methods.specs.declared.SamplingMethod.{SamplingMethod}
@@ -72,9 +74,10 @@ pub record Serves (d : Distr) (method : SamplingMethod) (tables : Tables) : Type
   pub serves : servesCrt d ≡ true
   pub magnitude : magnitudeOf method ≡ largest d
   pub small : largest d < 2 ^ 63
-  pub table : tableNumber d tables < 23
+  pub table : tableNumber d tables ≡ 23 → ⊥
   pub draws : (words : List ℕ) (place : ℕ) (out : List ℕ)
-      → methodDraw asNative method tables words place out ≡ readDraw asNative (tableNumber d tables) (coefficients d (length out) tables) words place out
+      → methodDraw asNative method tables words place out
+      ≡ naming (tableIndex d tables) (readDraw asNative (tableNumber d tables) (coefficients d (length out) tables) words place out)
   pub counts : (n : ℕ) (ws : List ℕ) → Counts n (coefficients d n tables ws)
   pub within : tableNumber d tables ≡ 0 → (n : ℕ) (ws : List ℕ) (cs : List ℤ) (rest : List ℕ) → coefficients d n tables ws ≡ got cs rest → Within (largest d) cs
   pub none : (ws : List ℕ) → coefficients d 0 tables ws ≡ got [] ws
@@ -99,11 +102,11 @@ module _ {d : Distr} {method : SamplingMethod} {tables : Tables} (s : Serves d m
   abbrev part : List ℕ
   part = lastRow out count
 
+  -- the last row as the rules say, without the index that goes with its number
   abbrev row : Outcome ℕ
-  row = rowDraw method tables words place part
+  row = readDraw asNative (tableNumber d tables) (coefficients d (length part) tables) words place part
 
-  -- as the rules say
-  row-drawn : row ≡ readDraw asNative (tableNumber d tables) (coefficients d (length part) tables) words place part
+  row-drawn : rowDraw method tables words place part ≡ naming (tableIndex d tables) row
   unfolding rowDraw
   row-drawn = rw (s .served) (s .draws words place part)
 
@@ -126,24 +129,23 @@ module _ {d : Distr} {method : SamplingMethod} {tables : Tables} (s : Serves d m
     few : length part ≤ 65536
     few = omega (arith, length-drop (length out - count) out, layout .few)
 
-    -- 12 or 13 leaves the last row as it was, and so the output
-    table-finished : 0 < tableNumber d tables → finishedRow out count moduli row ≡ record { number = tableNumber d tables; place = place; output = out }
+    -- 12, 13, or 30 to 32 leaves the last row as it was, and so the output
+    table-finished : 0 < tableNumber d tables → finishedRow out count moduli row ≡ record { number = tableNumber d tables; place = place; index = 0; output = out }
     table-finished t =
         ap (finishedRow out count moduli)
-        (row-drawn ∙ read-own asNative (tableNumber d tables) (coefficients d (length part) tables) words place part here few t)
-        ∙ sym (finished-kept (2 ^ 63) (take (length out - count) out ++ part) count moduli (tableNumber d tables) place
-        (λ z. omega arith) (λ z. omega (arith, s .table)) (sym (take-append-drop (length out - count) out)))
+        (read-own asNative (tableNumber d tables) (coefficients d (length part) tables) words place part here few t)
+        ∙ sym (finished-kept (2 ^ 63) (take (length out - count) out ++ part) count moduli (tableNumber d tables) place 0
+        (λ z. omega arith) (s .table) (sym (take-append-drop (length out - count) out)))
 
     -- else an empty output stays
-    empty-finished : tableNumber d tables ≡ 0 → length out ≡ 0 → finishedRow out count moduli row ≡ record { number = 0; place = place; output = out }
+    empty-finished : tableNumber d tables ≡ 0 → length out ≡ 0 → finishedRow out count moduli row ≡ record { number = 0; place = place; index = 0; output = out }
     empty-finished t none =
         let empty : length part ≡ 0 = omega (arith, length-drop (length out - count) out) in
         let taken : length (take (length out - count) out ++ []) ≡ 0 =
         ap length (append-nil (take (length out - count) out)) ∙ length-take-le (length out - count) out (omega arith) ∙ omega arith in
         let same : length words - length (drop place words) ≡ place = omega (arith, length-drop place words) in
         ap (finishedRow out count moduli)
-        (row-drawn
-        ∙ read-got asNative (tableNumber d tables) (coefficients d (length part) tables) words place part here few t [] (drop place words)
+        (read-got asNative (tableNumber d tables) (coefficients d (length part) tables) words place part here few t [] (drop place words)
         (ap (λ (n : ℕ). coefficients d n tables (drop place words)) empty ∙ s .none (drop place words)))
         ∙ rw (same, spread-empty (take (length out - count) out ++ []) count moduli taken, no-elements out none)
 
@@ -151,7 +153,7 @@ module _ {d : Distr} {method : SamplingMethod} {tables : Tables} (s : Serves d m
         → row ≡ settled asNative (length words) place n (coefficients d n tables (drop place words))
     row-settled t n e =
         subst (λ (n : ℕ). row ≡ settled asNative (length words) place n (coefficients d n tables (drop place words))) e
-        (row-drawn ∙ read-settled asNative (tableNumber d tables) (coefficients d (length part) tables) words place part here few t)
+        (read-settled asNative (tableNumber d tables) (coefficients d (length part) tables) words place part here few t)
 
     -- and in another the rows are made from the last one, or 23
     rows-finished : tableNumber d tables ≡ 0 → 0 < length out
@@ -163,12 +165,12 @@ module _ {d : Distr} {method : SamplingMethod} {tables : Tables} (s : Serves d m
         let size : length (row .output) ≡ length part =
         ap (λ (o : Outcome ℕ). length (o .output)) drawn
         ∙ settled-length (length words) place count (s .counts count (drop place words)) ∙ sym long in
-        finished-settled (2 ^ 63) (take (length out - count) out ++ row .output) count moduli (row .number) (row .place)
+        finished-settled (2 ^ 63) (take (length out - count) out ++ row .output) count moduli (row .number) (row .place) (row .index)
         (largest d) (length words) place (coefficients d count tables (drop place words)) (row-length out count (row .output) size ∙ layout .shape)
         (s .small) (layout .above) (s .within t count (drop place words)) (rw (row-last out count (row .output) size) drawn)
 
     -- no number of the layout refuses
-    made-drawn : finishedRow out count moduli row ≡ crtDraw true d tables count moduli words place out
+    made-drawn : finishedRow out count moduli row ≡ crtPlain d tables count moduli words place out true
     made-drawn =
         zero-or-more (tableNumber d tables)
         (λ t. zero-or-more (length out)
@@ -180,11 +182,11 @@ module _ {d : Distr} {method : SamplingMethod} {tables : Tables} (s : Serves d m
   unfolding judged
   not-refused e = rw e
 
-  settled-crt : judged (firstOf numbers) place out (finishedRow out count moduli row) ≡ crtDraw true d tables count moduli words place out
+  settled-crt : judged (firstOf numbers) place out (finishedRow out count moduli row) ≡ crtPlain d tables count moduli words place out true
   settled-crt = go (ltb (length words) place) refl
     where
       go : (b : Bool) → ltb (length words) place ≡ b
-          → judged (firstOf numbers) place out (finishedRow out count moduli row) ≡ crtDraw true d tables count moduli words place out
+          → judged (firstOf numbers) place out (finishedRow out count moduli row) ≡ crtPlain d tables count moduli words place out true
       go true e =
           let past : length words < place = ltb-true (length words) place e in
           refused numbers place out (finishedRow out count moduli row) (past-end past) (omega arith)
@@ -198,4 +200,10 @@ module _ {d : Distr} {method : SamplingMethod} {tables : Tables} (s : Serves d m
 
   pub method-crt : crtBy method tables count moduli words place out ≡ crtDraw true d tables count moduli words place out
   unfolding crtBy crtNumber
-  method-crt = rw (s .served, s .magnitude) settled-crt
+  method-crt =
+      let index = tableIndex d tables in
+      let small = layout-small true (length words) place (largest d) (length out) count moduli in
+      rw (s .served, s .magnitude)
+      (ap (λ (r : Outcome ℕ). judged (firstOf numbers) place out (finishedRow out count moduli r)) row-drawn
+      ∙ judged-naming index (firstOf numbers) place out (finishedRow out count moduli row) (λ some. layer-unnamed (largest d) (tables .layers) (firstOf numbers) small)
+      ∙ ap (naming index) settled-crt ∙ crt-named d tables count moduli words place out true)

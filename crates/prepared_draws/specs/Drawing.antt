@@ -33,7 +33,7 @@ unfoldable pub encodedBy : SamplingMethod → Tables → ℕ → List ℕ → �
 encodedBy method tables modulus words place out =
     let asked = firstOf (residueNumbers method (length out) modulus) in
     cond (eqb asked 0) (methodDraw (map (encodeWith (modulus - 1))) method tables words place out)
-    (record { number = firstOf (pastEnd (length words) place ∷ tooLong (length out) ∷ asked ∷ []); place = place; output = out })
+    (record { number = firstOf (pastEnd (length words) place ∷ tooLong (length out) ∷ asked ∷ []); place = place; index = 0; output = out })
 
 -- The numbers of a CRT draw: 21, 22, 11, 6, then modulus by modulus 10 before 9.
 unfoldable pub crtNumber : SamplingMethod → ℕ → ℕ → ℕ → ℕ → List ℕ → ℕ
@@ -48,12 +48,12 @@ asNative cs = map (encodeWith (2 ^ 64 - 1)) cs
 -- A row drawn in native residues; "another sampler gives 21".
 unfoldable pub rowDraw : SamplingMethod → Tables → List ℕ → ℕ → List ℕ → Outcome ℕ
 rowDraw method tables words place out =
-    cond (isServed method) (methodDraw asNative method tables words place out) (record { number = neverMade; place = place; output = out })
+    cond (isServed method) (methodDraw asNative method tables words place out) (record { number = neverMade; place = place; index = 0; output = out })
 
 -- An output whose last row was drawn, finished from it.
 abbrev pub finishedRow : List ℕ → ℕ → List ℕ → Outcome ℕ → Outcome ℕ
 finishedRow out coefficientCount moduli row =
-    finished (take (length out - coefficientCount) out ++ row .output) coefficientCount moduli (row .number) (row .place)
+    finished (take (length out - coefficientCount) out ++ row .output) coefficientCount moduli (row .number) (row .place) (row .index)
 
 -- The first number that refuses the draw, or the rows made from the last one.
 unfoldable pub crtBy : SamplingMethod → Tables → ℕ → List ℕ → List ℕ → ℕ → List ℕ → Outcome ℕ

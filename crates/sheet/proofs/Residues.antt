@@ -28,7 +28,7 @@ module _ (n : ℕ) where
   same-zeros = map-replicate pos n 0
 
   as-residues : (o : Outcome ℕ) → Idle 0 (replicate n 0) o → asValues zeros o ≡ residues o
-  as-residues o h = ap (λ (l : List ℤ). record { number = o .number; place = o .place; output = l }) (go (writes (o .number)) refl)
+  as-residues o h = ap (λ (l : List ℤ). record { number = o .number; place = o .place; index = o .index; output = l }) (go (writes (o .number)) refl)
     where
       go : (b : Bool) → writes (o .number) ≡ b → cond (writes (o .number)) (map pos (o .output)) zeros ≡ map pos (o .output)
       go true e = rw e
@@ -39,10 +39,10 @@ module _ (n : ℕ) where
   judged-residues k o h = go (eqb k 0)
     where
       go : (b : Bool)
-          → cond b (asValues zeros o) (record { number = k; place = 0; output = zeros })
-          ≡ residues (cond b o (record { number = k; place = 0; output = replicate n 0 }))
+          → cond b (asValues zeros o) (record { number = k; place = 0; index = 0; output = zeros })
+          ≡ residues (cond b o (record { number = k; place = 0; index = 0; output = replicate n 0 }))
       go true = as-residues o h
-      go false = ap (λ (l : List ℤ). record { number = k; place = 0; output = l }) (sym same-zeros)
+      go false = ap (λ (l : List ℤ). record { number = k; place = 0; index = 0; output = l }) (sym same-zeros)
 
 question-fields : (f : Fields) (words : List ℕ) → knownKind (f .kind) ≡ true
     → question (f .kind) (f .a) (f .b) (f .modulus) words 0 (replicate (f .n) (pos 0)) ≡ fieldsDraw f words

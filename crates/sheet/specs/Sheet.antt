@@ -53,7 +53,7 @@ malformed s = ltb (length s) 32 || ltb sheetBytes (length s) || badFields (field
 
 -- Residues as coefficients.
 abbrev pub residues : Outcome ℕ → Outcome ℤ
-residues o = record { number = o .number; place = o .place; output = map pos (o .output) }
+residues o = record { number = o .number; place = o .place; index = o .index; output = map pos (o .output) }
 
 -- The draw that a sheet's fields ask for, on its words: the numbers of making come first, then those of the draw; "modulus or 0 for signed".
 -- "Kind 9 with a modulus draws as CRT of one", as every encoded centered binomial does.

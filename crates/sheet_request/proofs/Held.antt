@@ -18,7 +18,7 @@ use Rattle.sheet_request.specs.Request.{knownKind, kindDistr, asValues, 
 
 -- residues in one output and in another
 values-over : (o : Outcome ℕ) (out out′ : List ℤ) → asValues out′ o ≡ heldOver (λ cs. cs) out′ (asValues out o)
-values-over o out out′ = ap (λ (l : List ℤ). record { number = o .number; place = o .place; output = l }) (go (writes (o .number)))
+values-over o out out′ = ap (λ (l : List ℤ). record { number = o .number; place = o .place; index = o .index; output = l }) (go (writes (o .number)))
   where
     go : (b : Bool) → cond b (map pos (o .output)) out′ ≡ cond b (cond b (map pos (o .output)) out) out′
     go true = refl
@@ -45,9 +45,9 @@ module _ (words : List ℕ) (place : ℕ) (out out′ : List ℤ) (e : length ou
       d = kindDistr kind a b
 
       go : (known : Bool)
-          → cond known (atOnce d place out′ (valuesDraw d modulus words place out′)) (record { number = invalidSheet; place = place; output = out′ })
+          → cond known (atOnce d place out′ (valuesDraw d modulus words place out′)) (record { number = invalidSheet; place = place; index = 0; output = out′ })
           ≡ heldOver (λ cs. cs) out′
-          (cond known (atOnce d place out (valuesDraw d modulus words place out)) (record { number = invalidSheet; place = place; output = out }))
+          (cond known (atOnce d place out (valuesDraw d modulus words place out)) (record { number = invalidSheet; place = place; index = 0; output = out }))
       go true =
           let small = making-below d in
           judged-held (λ cs. cs) (makingNumber d) place out out′ _ _ (omega arith) (λ z. values-held d modulus)

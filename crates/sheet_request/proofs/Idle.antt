@@ -45,6 +45,6 @@ module _ (words : List ℕ) (place n : ℕ) where
 
       go : (known : Bool)
           → Idle place zeros
-          (cond known (atOnce d place zeros (valuesDraw d modulus words place zeros)) (record { number = invalidSheet; place = place; output = zeros }))
+          (cond known (atOnce d place zeros (valuesDraw d modulus words place zeros)) (record { number = invalidSheet; place = place; index = 0; output = zeros }))
       go true = judged-idle place zeros (makingNumber d) (valuesDraw d modulus words place zeros) (values-idle d modulus)
       go false = λ never. (refl, refl)

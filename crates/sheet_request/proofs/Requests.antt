@@ -26,7 +26,7 @@ unfolding anyAtOnce anySkips
 asked-draw {A} {r} {after} draw skips place out kind a b e said = go (knownKind kind) (kindDistr kind a b) (rw e at said)
   where
     go : (b : Bool) (d : Distr) → Answered r after (anyAtOnce (cond b (anyOf d) Unknown) place out draw) (anySkips (cond b (anyOf d) Unknown) skips)
-        → Answered r after (cond b (atOnce d place out (draw d)) (record { number = invalidSheet; place = place; output = out })) (skips d)
+        → Answered r after (cond b (atOnce d place out (draw d)) (record { number = invalidSheet; place = place; index = 0; output = out })) (skips d)
     go true d said = (said .0 ∙ drawn-of draw place out d, said .1 ∙ ap (reported (r .number)) (skipped-of skips d))
     go false d said =
         (said .0, reports-same r nothing (skips d) (λ z. absurd (omega (arith, ap (λ (o : Outcome A). o .number) (said .0)))) (said .1))

@@ -37,7 +37,7 @@ use Rattle.sheet_request.specs.Request.{asValues}
 
 -- An outcome after a pass over its output, which is made where the draw succeeded.
 abbrev pub passed : (List ℤ → List ℤ) → Outcome ℤ → Outcome ℤ
-passed pass o = record { number = o .number; place = o .place; output = cond (eqb (o .number) 0) (pass (o .output)) (o .output) }
+passed pass o = record { number = o .number; place = o .place; index = o .index; output = cond (eqb (o .number) 0) (pass (o .output)) (o .output) }
 
 -- A pass that keeps zeros is a way of writing: it is made where the draw succeeded, zeros are left as they are, and so is what was refused.
 module _ (pass write : List ℤ → List ℤ) (same : (cs : List ℤ) → pass cs ≡ write cs) where
@@ -52,7 +52,7 @@ module _ (pass write : List ℤ → List ℤ) (same : (cs : List ℤ) → pass c
   judged-passed k place out x y e = go (eqb k 0) refl
     where
       go : (b : Bool) → eqb k 0 ≡ b
-          → passed pass (cond b x (record { number = k; place = place; output = out })) ≡ cond b y (record { number = k; place = place; output = out })
+          → passed pass (cond b x (record { number = k; place = place; index = 0; output = out })) ≡ cond b y (record { number = k; place = place; index = 0; output = out })
       go true t = e
       go false t = rw t
 
@@ -78,7 +78,7 @@ module _ (q : ℕ) (words : List ℕ) (place : ℕ) (out : List ℤ) where
   valuesBy method =
       let asked = firstOf (residueNumbers method (length out) q) in
       cond (eqb asked 0) (passed (residuesOf q) (methodDraw (λ cs. cs) method noTables words place out))
-      (record { number = firstOf (pastEnd (length words) place ∷ tooLong (length out) ∷ asked ∷ []); place = place; output = out })
+      (record { number = firstOf (pastEnd (length words) place ∷ tooLong (length out) ∷ asked ∷ []); place = place; index = 0; output = out })
 
   -- the residues, written as their values
   write : List ℤ → List ℤ
@@ -143,9 +143,9 @@ module _ (q : ℕ) (words : List ℕ) (place : ℕ) (out : List ℤ) where
         number = firstOf (pastEnd (length words) place ∷ tooLong (length out) ∷ asked ∷ [])
 
         go : (b : Bool) → eqb asked 0 ≡ b
-            → cond b (passed (residuesOf q) (methodDraw (λ cs. cs) method noTables words place out)) (record { number = number; place = place; output = out })
+            → cond b (passed (residuesOf q) (methodDraw (λ cs. cs) method noTables words place out)) (record { number = number; place = place; index = 0; output = out })
             ≡ asValues out
-            (cond b (methodDraw (map (encodeWith (q - 1))) method noTables words place zeros) (record { number = number; place = place; output = zeros }))
+            (cond b (methodDraw (map (encodeWith (q - 1))) method noTables words place zeros) (record { number = number; place = place; index = 0; output = zeros }))
         go true e = drawn-values z
         go false e =
             let small = numbers-below asked asked-below in
@@ -170,7 +170,7 @@ module _ (q : ℕ) (words : List ℕ) (place : ℕ) (out : List ℤ) where
   -- the answers of the draw, as the code tries them
   module _ (p : PreparedMethod) (accepted : p .number ≡ 0) {j : ℕ} (e : j ≡ firstOf (residueNumbers (p .method) (length out) q)) where
     pub values-asked : (j ≡ 0 → ⊥) → {number : ℕ} → number ≡ firstOf (pastEnd (length words) place ∷ tooLong (length out) ∷ j ∷ [])
-        → record { number = number; place = place; output = out } ≡ preparedDraw p place out valuesBy
+        → record { number = number; place = place; index = 0; output = out } ≡ preparedDraw p place out valuesBy
     unfolding judged valuesBy
     values-asked never n = rw (accepted, n, ← e, ne-eqb j 0 never)
 

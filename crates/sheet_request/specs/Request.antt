@@ -43,7 +43,7 @@ selected kind a b = cond (knownKind kind) (anyOf (kindDistr kind a b)) Unknown
 
 -- 02 [4]: "another kind gives 14"; "then come the numbers of making and those of the draw".
 abbrev pub known : {A : Type 0} → ℕ → ℕ → List A → Outcome A → Outcome A
-known kind place out drawn = cond (knownKind kind) drawn (record { number = invalidSheet; place = place; output = out })
+known kind place out drawn = cond (knownKind kind) drawn (record { number = invalidSheet; place = place; index = 0; output = out })
 
 -- Residues as their value, in an output of signed numbers.
 abbrev pub asValues : List ℤ → Outcome ℕ → Outcome ℤ

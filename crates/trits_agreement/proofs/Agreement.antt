@@ -13,7 +13,7 @@ use Rattle.trits_agreement.specs.Agreement.{Promises, Same, Agreement}
 
 -- an answer is its number, its place and its sums
 made-of : {A : Type 0} → Outcome A → Skipped → Answer
-made-of o s = record { number = o .number; place = o .place; «skipped_words» = s .words; «skipped_bytes» = s .bytes }
+made-of o s = record { number = o .number; place = o .place; index = o .index; «skipped_words» = s .words; «skipped_bytes» = s .bytes }
 
 same : {A : Type 0} (drawn : Outcome A) (words : List ℕ) (place n : ℕ) (table division : Answer) (tableAfter divisionAfter : List A)
     → Promises drawn words place n table tableAfter → Promises drawn words place n division divisionAfter → Same table tableAfter division divisionAfter

@@ -1,6 +1,6 @@
 -- What the test of the layer tables says of them.
 use mathlib.Core.Path.{_≡_}
-use mathlib.Core.Bool.{Bool, true, false, _&&_, _||_}
+use mathlib.Core.Bool.{_&&_, _||_}
 use mathlib.Core.List.{List, [], _∷_}
 use Prim.Native.Nat.{ℕ, zero, suc, _+_, _-_, _^_, _<_, _≤_}
 use native.Mathlib.Nat.{not-suc-le-zero}
@@ -16,13 +16,7 @@ use Rattle.ziggurat.specs.Tables.{layerSizes}
 use Rattle.ziggurat.specs.Sampling.{OnLayer}
 use Rattle.distr.proofs.Reading.{and-left}
 use Rattle.distr.proofs.Rising.{Rising, is-rising, rises}
-
--- tests in a row, each by itself
-four : (a b c d : Bool) → T (a && b && c && d) → T a × T b × T c × T d
-four true true true d t = (tt, tt, tt, t)
-four true true false d t = absurd t
-four true false c d t = absurd t
-four false b c d t = absurd t
+use Rattle.distr.proofs.FirstWrong.{four}
 
 -- no layers are none of the three numbers
 some : (R : ℕ) → T (eqb R 128 || eqb R 256 || eqb R 512) → 0 < R

@@ -17,7 +17,7 @@ use Rattle.distr.specs.Layered.{Layers, x, float, accepts, zeroThreshold, judge
 use Rattle.distr.specs.declared.threshold.Threshold.{Threshold}
 use Rattle.words.specs.Reading.{thresholdValue}
 use Rattle.words.proofs.Places.{word-there, word-missing, wide-there, wide-missing}
-use Rattle.layer_tables.proofs.Judging.{getD-there}
+use Rattle.distr.proofs.FirstWrong.{getD-there}
 use Rattle.edge.specs.declared.Layer.{Layer}
 use Rattle.edge.specs.Edge.{layerAt, acceptsOn}
 use Rattle.edge.proofs.Accepting.{same-accepts}

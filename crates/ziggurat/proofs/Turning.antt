@@ -1,36 +1,40 @@
 -- A filling loop, turn by turn: what a try makes of the output and of the words left, over any element type.
-use mathlib.Core.Path.{_≡_, refl, sym, ap, subst, _∙_}
-use mathlib.Core.Bool.{Bool, true, false, not, cond}
+use mathlib.Core.Path.{_≡_, refl, sym, ap, _∙_}
+use mathlib.Core.Bool.{Bool, true, false, cond}
 use mathlib.Core.List.{List, map}
 use mathlib.Core.Logic.{_⊎_, inl, inr}
 use Prim.Native.Nat.{ℕ, _+_, _-_, _*_, _^_, _<_, _≤_}
 use native.Mathlib.Nat.{add-zero}
 use native.Mathlib.Omega.{arith}
 use borrow.Author.Needs.{sfits-of}
-use borrow.Author.Tests.{not-false, lt-ltb}
+use borrow.Author.Tests.{lt-ltb}
 use mir.Syntax.{w64}
 use mir.Val.{Fits, boolByte, toZ, ofZ}
 use mir.Facts.{toZ-ofZ}
-use lib.Dec.{T, ltb}
+use lib.Dec.{T, ltb, eqb}
 use lib.ListN.{length, getD, drop, set, replicate}
 use lib.IntN.{ℤ, pos}
 use lib.Signed.{mag}
 use lib.Ieee.{Float, nan}
 use Rattle.distr.specs.Words.{Read, got, short}
-use Rattle.distr.specs.Constants.{outputLimit, invalidLayerTables, outOfWords}
-use Rattle.distr.specs.Making.{refuse}
+use Rattle.distr.specs.Constants.{outputLimit, outOfWords}
 use Rattle.distr.specs.Gaussian.{withSign}
 use Rattle.distr.specs.Skipped.{skippedWords}
 use Rattle.distr.specs.Layered.{Layers, layerTables, zeroThreshold, judge, layeredOne, layered, passedTry, passedOne, passedLayered}
 use Rattle.distr.specs.declared.answer.Answer.{Answer}
-use Rattle.distr.specs.Answers.{refusal, successAfter, sums, reported}
-use Rattle.distr.specs.Draw.{Outcome, outcome, settled}
+use Rattle.distr.specs.Answers.{refusal, refusalAt, successAfter, sums, reported}
+use Rattle.distr.specs.Numbers.{layerNumber, layerIndex}
+use Rattle.distr.specs.Draw.{Outcome, outcome, naming, settled}
 use Rattle.distr.specs.declared.gaussian_parameters.GaussianParameters.{GaussianParameters}
 use Rattle.distr.specs.declared.threshold.Threshold.{Threshold}
 use Rattle.distr.proofs.Reading.{map-read-same}
 use Rattle.distr.proofs.Writing.{map-id, map-replicate}
-use Rattle.distr.proofs.Drawing.{not-refused, settled-got, settled-short}
+use Rattle.distr.proofs.FirstWrong.{layer-good, layer-unnamed}
+use Rattle.distr.proofs.Drawing.{settled-got, settled-short}
 use Rattle.distr.proofs.Skipping.{reports-words}
+use Rattle.draw_laws.proofs.Naming.{settled-named, draw-index}
+use Rattle.layer_tables.specs.declared.LayerFault.{LayerFault}
+use Rattle.layer_tables.specs.Fault.{layerFault}
 use Rattle.numbers.proofs.Refusing.{drawNumber, number-by, number-passed, read-refused, read-passed}
 use Rattle.words.specs.Reading.{thresholdValue}
 use Rattle.words.proofs.Places.{lentFrom, lent-all, lent-place}
@@ -79,21 +83,37 @@ module _ {A : Type 0} (write : List ℤ → List A) (parameters : GaussianParame
     pub filled : Filled put one from 0 out₀ i at out
     pub counted : Counted one (passedOne (parameters .«standard_deviation») t) from (length out₀) i at used
 
-  -- before the loop: the number is the first that refuses, 13 by the tables
-  module _ {own number : ℕ} (judged : own ≡ refuse (not (layerTables (parameters .«maximum_magnitude») t)) invalidLayerTables)
-      (numbered : number ≡ drawNumber (length words) place (length out₀) own) where
-    by-tables : number ≡ drawNumber (length words) place (length out₀) (refuse (not (layerTables (parameters .«maximum_magnitude») t)) invalidLayerTables)
-    by-tables = number-by (length words) place (length out₀) own _ judged numbered
+  -- The tables' number, the index that goes with a number, and the draw without the index.
+  abbrev own : ℕ
+  own = layerNumber (parameters .«maximum_magnitude») t
 
-    pub draw-refused : {answer : Answer} → (number ≡ 0 → ⊥) → answer ≡ refusal number place → outcome answer out₀ ≡ draw
-    draw-refused some e = rw e (read-refused write _ words place out₀ by-tables (layered (parameters .«standard_deviation») t (length out₀)) some)
+  abbrev index : ℕ → ℕ
+  index = layerIndex (parameters .«maximum_magnitude») t
+
+  none-named : (k : ℕ) → k < 30 → index k ≡ 0
+  none-named = layer-unnamed (parameters .«maximum_magnitude») t
+
+  -- before the loop: the number is the first that refuses, 13 or 30 to 32 by the tables
+  module _ {fault : LayerFault} {number : ℕ} (judged : fault ≡ layerFault (parameters .«maximum_magnitude») t)
+      (numbered : number ≡ drawNumber (length words) place (length out₀) (fault .number)) where
+    by-tables : number ≡ drawNumber (length words) place (length out₀) own
+    by-tables = number-by (length words) place (length out₀) (fault .number) own (ap (λ (f : LayerFault). f .number) judged) numbered
+
+    pub draw-refused : {answer : Answer} {at : ℕ} → (number ≡ 0 → ⊥) → at ≡ cond (eqb number (fault .number)) (fault .index) 0
+        → answer ≡ refusalAt number place at → outcome answer out₀ ≡ draw
+    draw-refused some f e =
+        let named : cond (eqb number (fault .number)) (fault .index) 0 ≡ index number =
+        ap (λ (x : LayerFault). cond (eqb number (x .number)) (x .index) 0) judged
+        ∙ draw-index index none-named (length words) place (length out₀) own by-tables in
+        rw e
+        (ap (λ (i : ℕ). record { number = number; place = place; index = i; output = out₀ }) (f ∙ named)
+        ∙ ap (naming index) (read-refused write own words place out₀ by-tables (layered (parameters .«standard_deviation») t (length out₀)) some))
 
     module _ (none : number ≡ 0) where
       passed : (place ≤ length words) × (length out₀ ≤ outputLimit) × T (layerTables (parameters .«maximum_magnitude») t)
       passed =
-          let ok = layerTables (parameters .«maximum_magnitude») t in
-          let all = number-passed (length words) place (length out₀) (refuse (not ok) invalidLayerTables) by-tables none in
-          (all .0, all .1, subst T (sym (not-false ok (not-refused (not ok) 12 (all .2)))) tt)
+          let all = number-passed (length words) place (length out₀) own by-tables none in
+          (all .0, all .1, layer-good (parameters .«maximum_magnitude») t (all .2))
 
       -- the place is one of the words', also in bytes
       pub place-within : place ≤ length words
@@ -114,7 +134,9 @@ module _ {A : Type 0} (write : List ℤ → List A) (parameters : GaussianParame
         limited = passed .1;
         begins = passed .0;
         part = refl;
-        draws = rw (lent-all words place) (read-passed write _ words place out₀ by-tables (layered (parameters .«standard_deviation») t (length out₀)) none);
+        draws = rw (lent-all words place)
+            (settled-named index none-named write (length words) place (length out₀) (layered (parameters .«standard_deviation») t (length out₀) (drop place words))
+            ∙ ap (naming index) (read-passed write own words place out₀ by-tables (layered (parameters .«standard_deviation») t (length out₀)) none));
         filled = filled-none put one (lentFrom words place) 0 out₀ (omega arith);
         counted = counted-none one (passedOne (parameters .«standard_deviation») t) (lentFrom words place) (length out₀);
       }

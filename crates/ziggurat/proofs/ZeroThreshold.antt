@@ -20,7 +20,7 @@ use Rattle.distr.specs.Making.{badProbability}
 use Rattle.distr.proofs.Reading.{and-both, T-true}
 use Rattle.words.specs.Reading.{thresholdValue}
 use Rattle.probability.proofs.Made.{flagged-value, made-threshold}
-use Rattle.layer_tables.proofs.Judging.{getD-there}
+use Rattle.distr.proofs.FirstWrong.{getD-there}
 use Rattle.ziggurat.specs.Sampling.{zeroOver}
 use Rattle.ziggurat.proofs.LayerTables.{some-layers, heights-count, first-finite, first-high}
 

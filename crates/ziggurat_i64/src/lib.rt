@@ -2,10 +2,12 @@
 // this file names the output's type, the others are one text for every type.
 use distr::answer::Answer;
 use distr::answer::refused;
+use distr::answer::refused_at;
 use distr::answer::succeeded_after;
 use distr::gaussian_parameters::GaussianParameters;
 use distr::refusal::OUT_OF_WORDS;
-use layer_tables::layer_number;
+use layer_tables::check_layer_tables;
+use layer_tables::index_with;
 use output_i64::Encoding;
 use output_i64::Out;
 use output_i64::clear;
@@ -45,10 +47,10 @@ pub fn sample_ziggurat_to(
     ensures { λ r. ⌜ sums r ≡ reported (r .number) (skippedWords (passedLayered (parameters .«standard_deviation»)
         (tables (now (endpoints .entry)) (now (heights .entry)) (now (curve .entry))) (length (now (output .entry))) (drop place (now (words .entry))))) ⌝ }
 {
-    let own = layer_number(parameters.maximum_magnitude, endpoints, heights, curve);
-    let number = numbers::draw_number(words.len(), place, output.len(), own);
+    let fault = check_layer_tables(parameters.maximum_magnitude, endpoints, heights, curve);
+    let number = numbers::draw_number(words.len(), place, output.len(), fault.number);
     if number != 0 {
-        return refused(number, place);
+        return refused_at(number, place, index_with(number, fault));
     }
     let zero = zero_threshold(heights[0]);
     let from = &words[place..];

@@ -8,15 +8,15 @@ use Rattle.crt.proofs.finish.Tie as tie
 returns : tie.Need-returns
 returns c =
     let called = c .before .before in
-    (finished-rows _ _ _ _ _ _ (called .before .before .if1 .taken) (called .spread-rows .ensures), refl)
+    (finished-rows _ _ _ _ _ _ _ (called .before .before .if1 .taken) (called .spread-rows .ensures), refl)
 
 returns-2 : tie.Need-returns-2
 returns-2 c =
     let called = c .before .before in
-    (finished-zeros _ _ _ _ _ _ (called .before .before .if2 .taken) (called .clear .ensures), refl)
+    (finished-zeros _ _ _ _ _ _ _ (called .before .before .if2 .taken) (called .clear .ensures), refl)
 
 returns-3 : tie.Need-returns-3
-returns-3 c = (finished-kept _ _ _ _ _ _ (c .before .if1 .left) (c .if2 .left) refl, refl)
+returns-3 c = (finished-kept _ _ _ _ _ _ _ (c .before .if1 .left) (c .if2 .left) refl, refl)
 
 pub finish-spec : {M : Type 1} → statement M
 finish-spec =

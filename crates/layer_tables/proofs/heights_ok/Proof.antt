@@ -5,7 +5,7 @@ use borrow.Author.Tests.{eq-eqb, ne-eqb}
 use lib.ListN.{length}
 use lib.Ieee.{nan, round, ofBits}
 use Rattle.distr.specs.Constants.{literal}
-use Rattle.layer_tables.proofs.Judging.{getD-there}
+use Rattle.distr.proofs.FirstWrong.{getD-there}
 use borrow.Author.Needs.{needs}
 use Rattle.layer_tables.proofs.heights_ok.Statement.{statement}
 use Rattle.layer_tables.proofs.heights_ok.Tie as tie

@@ -12,17 +12,17 @@ use Rattle.ziggurat_u64.proofs.sample_ziggurat_to.Statement.{statement}
 use Rattle.ziggurat_u64.proofs.sample_ziggurat_to.Tie as tie
 
 abbrev Inv-loop : tie.InvT-loop
-Inv-loop output₀ encoding parameters endpoints heights curve words place own number zero from n i₀ at₀ used₀ output i at used =
+Inv-loop output₀ encoding parameters endpoints heights curve words place number zero from n i₀ at₀ used₀ output i at used =
     Turning (held encoding) parameters endpoints heights curve words place output₀ (heldOne encoding) zero from i at used output
 
 abbrev μ-loop : tie.MeasureT-loop
-μ-loop output₀ encoding parameters endpoints heights curve words place own number zero from n i₀ at₀ used₀ output i at used = length from - at
+μ-loop output₀ encoding parameters endpoints heights curve words place number zero from n i₀ at₀ used₀ output i at used = length from - at
 
 loop-holds : tie.Need-loop-holds Inv-loop μ-loop
 loop-holds c =
     let judged = c .before .before .before in
     let numbered = judged .before in
-    turning-none _ _ _ _ _ _ _ _ (numbered .before .layer-number .ensures) (numbered .draw-number .ensures) (judged .if1 .left) (λ cs. refl)
+    turning-none _ _ _ _ _ _ _ _ (numbered .before .check-layer-tables .ensures) (numbered .draw-number .ensures) (judged .if1 .left) (λ cs. refl)
     (c .before .zero-threshold .ensures)
 
 -- the words that a turn uses lie between its place and the next
@@ -74,12 +74,12 @@ loop-again-2 c =
 pub sample-ziggurat-to-spec : {M : Type 1} → statement M
 sample-ziggurat-to-spec =
     tie.close
-    (tie.spec Inv-loop μ-loop (λ c κs. search needs) (λ c κs. search needs) (λ c κs. search needs)
+    (tie.spec Inv-loop μ-loop (λ c κs. search needs) (λ c κs. search needs) (λ c κs. search needs) (λ c κs. search needs)
     (λ c. (search draw-refused, search reports-refused)) (λ c. search heights-there) (λ c κs. search needs) (λ c. search place-bytes)
     (λ c. search place-within) (λ c. search place-within) (λ c. search needs) loop-holds
     (λ c κs. (turn-sizes _ _ _ _ _ _ _ _ (c .before .loop .inv), turn-within _ _ _ _ _ _ _ _ (c .before .loop .inv))) (λ c. search needs)
     (λ c. search needs) (λ c κs. search needs) (λ c κs. search needs) (λ c. cc)
-    (λ c. (search turn-short, reports-refused _ (λ z. omega arith) (c .refused2 .ensures))) (λ c. omega (arith, uses c))
+    (λ c. (search turn-short, reports-refused _ (λ z. omega arith) (c .refused .ensures))) (λ c. omega (arith, uses c))
     (λ c. record { fits = omega (arith, uses c) }) (λ c. record { fits = omega (arith, uses c) }) (λ c. search needs) (λ c κs. search needs)
     (λ c. search turn-bytes) (λ c. search turn-index) (λ c. search needs) (λ c. search needs) (λ c κs. search needs) (λ c. search turn-bytes)
     (λ c. search turn-index) passes-edge-requires (λ c. search needs) (λ c. search turn-count) (λ c. search turn-less) loop-again
