@@ -18,9 +18,9 @@ use Rattle.distr.specs.Constants.{cumulativeLimit}
 use Rattle.distr.specs.Gaussian.{support, cumulativeTable, cumulative}
 use Rattle.distr.specs.Distribution.{Distr, secret, error, Tables, onDeviation, isLayered, gaussianRead, coefficients, rule, secretRule, errorRule}
 use Rattle.distr.specs.Making.{refuse, makingNumber}
-use Rattle.distr.specs.Numbers.{firstOf, tooLong, lengthNumber, gaussianTable, tableNumber, stateNumbers, signedNumbers}
-use Rattle.distr.specs.Draw.{Outcome, settled, judged, signedDraw, noTables}
-use Rattle.draw_laws.proofs.Small.{signed-below}
+use Rattle.distr.specs.Numbers.{firstOf, tooLong, lengthNumber, layerIndex, gaussianTable, tableNumber, tableIndex, stateNumbers, signedNumbers}
+use Rattle.distr.specs.Draw.{Outcome, settled, judged, naming, signedDraw, noTables}
+use Rattle.draw_laws.proofs.Small.{Apart, below-apart, signed-apart}
 use Rattle.counts.specs.DrawLists.{Carries}
 use Rattle.counts.specs.Inside.{inside}
 use Rattle.counts.specs.Formula.{formula}
@@ -103,21 +103,21 @@ unfolding judged
 refused zero place out given h = omega arith
 refused (suc k) place out given h = rw (eqb·suc-zero k)
 
-no-refusal : (k : ℕ) (place : ℕ) (out : List ℤ) (given : Outcome ℤ) → k < 22
+no-refusal : (k : ℕ) (place : ℕ) (out : List ℤ) (given : Outcome ℤ) → Apart k
     → ((judged k place out given .number ≡ 0) ⊎ (judged k place out given .number ≡ 22) ⊎ (judged k place out given .number ≡ 23)) → k ≡ 0
 no-refusal zero place out given h a = refl
 no-refusal (suc k) place out given h a =
     let e : judged (suc k) place out given .number ≡ suc k = refused (suc k) place out given (omega arith) in
-    ⊎-elim (λ z. omega arith) (λ b. ⊎-elim (λ z. omega arith) (λ z. omega arith) b) a
+    ⊎-elim (λ z. omega arith) (λ b. ⊎-elim (λ z. absurd (h .0 (sym e ∙ z))) (λ z. absurd (h .1 (sym e ∙ z))) b) a
 
 -- the numbers of a call on no words: 21 for a sampler that is not made, else those of the request
 numbers-of : Bool → Distr → Tables → ℕ → ℕ
 numbers-of made d tables n = firstOf (stateNumbers made 0 0 ++ signedNumbers d tables n)
 
-numbers-small : (made : Bool) (d : Distr) (tables : Tables) (n : ℕ) → numbers-of made d tables n < 22
+numbers-apart : (made : Bool) (d : Distr) (tables : Tables) (n : ℕ) → Apart (numbers-of made d tables n)
 unfolding numbers-of firstOf
-numbers-small true d tables n = signed-below d tables n
-numbers-small false d tables n = omega arith
+numbers-apart true d tables n = signed-apart d tables n
+numbers-apart false d tables n = below-apart (omega arith)
 
 numbers-zero : (made : Bool) (d : Distr) (tables : Tables) (n : ℕ) → numbers-of made d tables n ≡ 0 → T made × (firstOf (signedNumbers d tables n) ≡ 0)
 unfolding numbers-of firstOf
@@ -148,7 +148,7 @@ module _ (made : Bool) (d : Distr) (n : ℕ) (bounds : List ℕ) (is-made : T ma
       let answer = ok .every-call (lending bounds) [] 0 out (signedDraw made d (lending bounds) [] 0 out) (either d bounds) same-length refl in
       numbers-zero made d (lending bounds) n
       (subst (λ (m : ℕ). numbers-of made d (lending bounds) m ≡ 0) same-length
-      (no-refusal (numbers-of made d (lending bounds) (length out)) 0 out _ (numbers-small made d (lending bounds) (length out)) answer))
+      (no-refusal (numbers-of made d (lending bounds) (length out)) 0 out _ (numbers-apart made d (lending bounds) (length out)) answer))
 
   all-counted : Counted ρ (inside d n) (formula d n bounds)
   unfolding ρ
@@ -158,14 +158,15 @@ module _ (made : Bool) (d : Distr) (n : ℕ) (bounds : List ℕ) (is-made : T ma
   answered : (tables : Tables) (words : List ℕ) (place : ℕ) (ds rest : List ℕ) (out : List ℤ)
       → CallFor d bounds tables → Carries ρ words place ds rest → length out ≡ n
       → signedDraw made d tables words place out ≡ record { number = 0; place = length words - length rest; index = 0; output = ρ .decode ds }
-  unfolding signedDraw ρ mapRead
+  unfolding signedDraw layerIndex ρ mapRead
   answered tables words place ds rest out f c e =
-      judged-settled (firstOf (stateNumbers made (length words) place ++ signedNumbers d tables (length out))) place (length words) (length out) out
+      ap (naming (tableIndex d tables))
+      (judged-settled (firstOf (stateNumbers made (length words) place ++ signedNumbers d tables (length out))) place (length words) (length out) out
       (coefficients d (length out) tables (drop place words)) (ρ .decode ds) rest
       (state-zero made (length words) place (signedNumbers d tables (length out)) (passes .0) (c .good-place)
       ∙ ap (λ (m : ℕ). firstOf (signedNumbers d tables m)) e ∙ same-numbers d bounds tables n (ok .not-layered) f ∙ passes .1)
       (ap (λ (m : ℕ). coefficients d m tables (drop place words)) e
-      ∙ alike d bounds tables (ok .not-layered) f .reading n (drop place words) ∙ ap (mapRead (ρ .decode)) (c .reads))
+      ∙ alike d bounds tables (ok .not-layered) f .reading n (drop place words) ∙ ap (mapRead (ρ .decode)) (c .reads)))
 
   -- a draw list reaches what it decodes to
   reaches : (ds : List ℕ) → DrawList d n bounds ds → Reaches made d n bounds ds (ρ .decode ds)

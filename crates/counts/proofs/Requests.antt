@@ -15,10 +15,9 @@ use Rattle.distr.specs.declared.error_distribution.ErrorDistribution.the-varian
 use Rattle.distr.specs.Thresholds.{threshold}
 use Rattle.distr.specs.Constants.{literal, cumulativeLimit}
 use Rattle.distr.specs.Gaussian.{support, cumulativeTable}
-use Rattle.distr.specs.Layered.{layerTables}
 use Rattle.distr.specs.Distribution.{Distr, secret, error, Tables, onDeviation, isLayered, secretRule, errorRule, rule}
 use Rattle.distr.specs.Making.{refuse, badProbability, badProbabilities, badBlock, secretNumber, errorNumber, makingNumber}
-use Rattle.distr.specs.Numbers.{firstOf, tooLong, lengthNumber, gaussianTable, tableNumber, signedNumbers}
+use Rattle.distr.specs.Numbers.{firstOf, tooLong, lengthNumber, layerNumber, gaussianTable, tableNumber, signedNumbers}
 use Rattle.distr.proofs.Drawing.{first-passed, weight-fits}
 use Rattle.counts.specs.Inside.{insideSecret, inside}
 use Rattle.counts.specs.Formula.{secretFormula, formula}
@@ -81,7 +80,7 @@ table-good deviation tables = go (leb (support deviation) cumulativeLimit)
     good = cumulativeTable (support deviation) (tables .bounds)
 
     go : (b : Bool) → T (not (not b))
-        → cond b (refuse (not good) 12) (refuse (not (layerTables (support deviation) (tables .layers))) 13) ≡ 0
+        → cond b (refuse (not good) 12) (layerNumber (support deviation) (tables .layers)) ≡ 0
         → T good
     go true t e = not-not good (passed (not good) 11 e)
     go false t e = absurd t

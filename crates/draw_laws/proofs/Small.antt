@@ -53,14 +53,14 @@ abbrev pub Apart : ℕ → Type 0
 Apart k = (k ≡ 22 → ⊥) × (k ≡ 23 → ⊥)
 
 -- A number that is no lack of words.
-abbrev Enough : ℕ → Type 0
+abbrev pub Enough : ℕ → Type 0
 Enough k = k ≡ 23 → ⊥
 
 pub below-apart : {k : ℕ} → k < 22 → Apart k
 below-apart h = (λ e. omega arith, λ e. omega arith)
 
 -- the first of numbers that all have a property has it
-first-either : (P : ℕ → Type 0) (k : ℕ) (ns : List ℕ) → P k → P (firstOf ns) → P (firstOf (k ∷ ns))
+pub first-either : (P : ℕ → Type 0) (k : ℕ) (ns : List ℕ) → P k → P (firstOf ns) → P (firstOf (k ∷ ns))
 unfolding firstOf
 first-either P zero ns p q = q
 first-either P (suc k) ns p q = p

@@ -116,11 +116,11 @@ secret-plain (Secret.FixedCompositionTernary minus ones) = refl
 secret-plain (Secret.Gaussian deviation) = refl
 
 -- what is asked of a distribution's residues refuses by a small number
-asked-small : (d : Distr) (n q : ℕ) → firstOf (residueNumbers (preparedMethod d) n q) < 30
+pub asked-below : (d : Distr) (n q : ℕ) → firstOf (residueNumbers (preparedMethod d) n q) < 22
 unfolding firstOf
-asked-small d n q =
+asked-below d n q =
     let m = preparedMethod d in
-    first-below (lengthOf m n) (refuse (isBinomial m && eqb q 0) modulusZero ∷ modulusNumber (magnitudeOf m) q ∷ []) (omega (arith, prepared-length d n, length-below d n))
+    first-below (lengthOf m n) (refuse (isBinomial m && eqb q 0) modulusZero ∷ modulusNumber (magnitudeOf m) q ∷ []) (rw (prepared-length d n) (length-below d n))
     (first-below (refuse (isBinomial m && eqb q 0) modulusZero) (modulusNumber (magnitudeOf m) q ∷ []) (refuse-below (isBinomial m && eqb q 0) modulusZero (omega arith))
     (first-below (modulusNumber (magnitudeOf m) q) [] (refuse-below (leb q (magnitudeOf m)) 9 (omega arith)) (omega arith)))
 
@@ -235,7 +235,7 @@ module _ (tables : Tables) (q : ℕ) (words : List ℕ) (place : ℕ) (out : Lis
           ∙ residues-asked d
       go false e =
           refusal-named (tableIndex d tables) (layer-unnamed (largest d) (tables .layers)) _ place out
-          (draw-small (length words) place (length out) asked (asked-small d (length out) q))
+          (draw-small (length words) place (length out) asked (omega (arith, asked-below d (length out) q)))
           ∙ ap (naming (tableIndex d tables))
           (sampled-refused (map (encode q)) (residueNumbers m (length out) q) d tables words place out refl (eqb-false asked 0 e) refl)
           ∙ residues-asked d

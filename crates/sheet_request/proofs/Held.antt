@@ -50,5 +50,5 @@ module _ (words : List ℕ) (place : ℕ) (out out′ : List ℤ) (e : length ou
           (cond known (atOnce d place out (valuesDraw d modulus words place out)) (record { number = invalidSheet; place = place; index = 0; output = out }))
       go true =
           let small = making-below d in
-          judged-held (λ cs. cs) (makingNumber d) place out out′ _ _ (omega arith) (λ z. values-held d modulus)
+          judged-held (λ cs. cs) (makingNumber d) place out out′ _ _ (λ e. omega arith) (λ z. values-held d modulus)
       go false = refl

@@ -14,10 +14,10 @@ use Rattle.distr.specs.Constants.{outputLimit, outputTooLong, modulusTooSmall, 
 use Rattle.distr.specs.Encoding.{encode, encodeWith}
 use Rattle.distr.specs.Distribution.{Distr, coefficients, skipsOf}
 use Rattle.distr.specs.Making.{refuse, makingNumber}
-use Rattle.distr.specs.Numbers.{firstOf, pastEnd, tooLong, lengthNumber, modulusNumber, tableNumber}
-use Rattle.distr.specs.Draw.{Outcome, outcome, settled, judged, drawn, heldOver, noTables, encodedDraw}
+use Rattle.distr.specs.Numbers.{firstOf, pastEnd, tooLong, lengthNumber, tableNumber, tableIndex}
+use Rattle.distr.specs.Draw.{Outcome, outcome, settled, judged, naming, drawn, heldOver, noTables, encodedDraw}
 use Rattle.distr.proofs.Writing.{map-replicate, map-map}
-use Rattle.draw_laws.proofs.Small.{refuse-below, first-below, length-below, table-below, state-below}
+use Rattle.draw_laws.proofs.Small.{Enough, refuse-below, first-either, length-below, table-apart, state-apart}
 use Rattle.draw_laws.proofs.Held.{drawn-held}
 use Rattle.draw_laws.proofs.Sampled.{distributionNumber}
 use Rattle.draw_laws.proofs.Writes.{encode-with}
@@ -29,7 +29,7 @@ use Rattle.method_draws.specs.Drawing.{preparedMethod, methodDraw, methodSkips}
 use Rattle.method_draws.proofs.Drawing.{prepared-draw, prepared-length, prepared-skips}
 use Rattle.prepared_draws.specs.Drawing.{preparedDraw, residueNumbers, encodedBy}
 use Rattle.prepared_draws.proofs.Calls.{Answered, by-making}
-use Rattle.prepared_draws.proofs.Residues.{asked-refuses, encoded-of}
+use Rattle.prepared_draws.proofs.Residues.{asked-below, asked-refuses, encoded-of}
 use Rattle.any_sampler.specs.declared.AnyDistr.{AnyDistr}
 use Rattle.any_sampler.specs.Either.{preparingAny, anyAtOnce, anySkips}
 use Rattle.any_sampler.proofs.Drawing.{by-either}
@@ -96,28 +96,19 @@ module _ (q : ℕ) (words : List ℕ) (place : ℕ) (out : List ℤ) where
     abbrev method : SamplingMethod
     method = preparedMethod d
 
-    -- 22, 6 and another number below 22
-    numbers-below : (own : ℕ) → own < 22 → firstOf (pastEnd (length words) place ∷ tooLong (length out) ∷ own ∷ []) < 23
+    -- 22, 6 and another number that is no lack of words
+    numbers-enough : (own : ℕ) → Enough own → Enough (firstOf (pastEnd (length words) place ∷ tooLong (length out) ∷ own ∷ []))
     unfolding firstOf
-    numbers-below own small =
-        state-below true (length words) place (tooLong (length out) ∷ own ∷ [])
-        (first-below (tooLong (length out)) (own ∷ []) (refuse-below (ltb outputLimit (length out)) outputTooLong (omega arith))
-        (first-below own [] small (omega arith)))
+    numbers-enough own enough =
+        state-apart true (length words) place (tooLong (length out) ∷ own ∷ [])
+        (first-either Enough (tooLong (length out)) (own ∷ []) (λ e. omega (arith, refuse-below {most = 22} (ltb outputLimit (length out)) outputTooLong (omega arith)))
+        (first-either Enough own [] enough (λ e. omega arith)))
 
-    own-below : distributionNumber d noTables (length out) < 22
+    own-enough : Enough (distributionNumber d noTables (length out))
     unfolding firstOf
-    own-below =
-        first-below (lengthNumber d (length out)) (tableNumber d noTables ∷ []) (length-below d (length out))
-        (first-below (tableNumber d noTables) [] (table-below d noTables) (omega arith))
-
-    asked-below : firstOf (residueNumbers method (length out) q) < 22
-    unfolding firstOf
-    asked-below =
-        let zero = refuse (isBinomial method && eqb q 0) modulusZero in
-        let small = modulusNumber (magnitudeOf method) q in
-        first-below (lengthOf method (length out)) (zero ∷ small ∷ []) (rw (prepared-length d (length out)) (length-below d (length out)))
-        (first-below zero (small ∷ []) (refuse-below (isBinomial method && eqb q 0) modulusZero (omega arith))
-        (first-below small [] (refuse-below (leb q (magnitudeOf method)) modulusTooSmall (omega arith)) (omega arith)))
+    own-enough =
+        first-either Enough (lengthNumber d (length out)) (tableNumber d noTables ∷ []) (λ e. omega (arith, length-below d (length out)))
+        (first-either Enough (tableNumber d noTables) [] (table-apart d noTables .1) (λ e. omega arith))
 
     drawn-values : makingNumber d ≡ 0
         → passed (residuesOf q) (methodDraw (λ cs. cs) method noTables words place out)
@@ -126,9 +117,10 @@ module _ (q : ℕ) (words : List ℕ) (place : ℕ) (out : List ℤ) where
     drawn-values z =
         let numbers : List ℕ = pastEnd (length words) place ∷ tooLong (length out) ∷ distributionNumber d noTables (length out) ∷ [] in
         ap (passed (residuesOf q)) (prepared-draw (λ cs. cs) noTables words place out d z)
-        ∙ passed-drawn (residuesOf q) write same-residues numbers words place out (length out) (coefficients d (length out) noTables) (zeros-kept (length out))
+        ∙ ap (naming (tableIndex d noTables))
+        (passed-drawn (residuesOf q) write same-residues numbers words place out (length out) (coefficients d (length out) noTables) (zeros-kept (length out))
         ∙ drawn-held (map pos) (map (encodeWith (q - 1))) numbers words place zeros out (length out) (coefficients d (length out) noTables)
-        (numbers-below _ own-below)
+        (numbers-enough _ own-enough))
         ∙ ap (heldOver (map pos) out)
         (sym (rw zeros-length at (prepared-draw (map (encodeWith (q - 1))) noTables words place zeros d z)))
 
@@ -148,8 +140,11 @@ module _ (q : ℕ) (words : List ℕ) (place : ℕ) (out : List ℤ) where
             (cond b (methodDraw (map (encodeWith (q - 1))) method noTables words place zeros) (record { number = number; place = place; index = 0; output = zeros }))
         go true e = drawn-values z
         go false e =
-            let small = numbers-below asked asked-below in
-            rw (ne-eqb number 0 (asked-refuses _ _ asked (eqb-false asked 0 e) refl), ne-eqb number outOfWords (λ n. omega arith))
+            let small = asked-below d (length out) q in
+            rw (
+              ne-eqb number 0 (asked-refuses _ _ asked (eqb-false asked 0 e) refl),
+              ne-eqb number outOfWords (numbers-enough asked (λ n. omega arith)),
+            )
 
     -- by the method that is prepared for a distribution they are the values of its residues
     values-of : length out < 2 ^ 64 → makingNumber d ≡ 0 → valuesBy method ≡ asValues out (encodedDraw true d noTables q words place zeros)
