@@ -39,9 +39,9 @@ kinds a b p q =
 abbrev pub named : ℕ → ℕ → ℕ → Float → Float → AnyDistr
 named kind a b p q = getD (kinds a b p q) kind Unknown
 
--- The answer of a call: its number, the place that it writes and what its output holds then.
-abbrev pub answered : {A : Type 0} → ℕ → ℕ → List A → Outcome A
-answered number place output = record { number = number; place = place; index = 0; output = output }
+-- The answer of a call: its number, the place and the index that it writes and what its output holds then.
+abbrev pub answered : {A : Type 0} → ℕ → ℕ → ℕ → List A → Outcome A
+answered number place index output = record { number = number; place = place; index = index; output = output }
 
 -- 02 [1]: the two sums that a call writes.
 abbrev pub written : ℕ → ℕ → Skipped

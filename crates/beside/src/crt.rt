@@ -29,10 +29,11 @@ pub extern "C" fn beside_crt(
     place: usize,
     output: &mut [u64],
     new_place: &mut usize,
+    index: &mut usize,
     skipped_words: &mut u64,
     skipped_bytes: &mut u64,
 ) -> u32
-    ensures { λ r. ⌜ answered r (now («new_place» .exit)) (now (output .exit)) ≡ anyAtOnce (named kind a b p q) place (now (output .entry)) (λ (d : Distr). crtDraw true d
+    ensures { λ r. ⌜ answered r (now («new_place» .exit)) (now (index .exit)) (now (output .exit)) ≡ anyAtOnce (named kind a b p q) place (now (output .entry)) (λ (d : Distr). crtDraw true d
         (lent (now (bounds .entry)) (now (endpoints .entry)) (now (heights .entry)) (now (curve .entry)))
         «coefficient_count» (now (moduli .entry)) (now (words .entry)) place (now (output .entry))) ⌝ }
     ensures { λ r. ⌜ written (now («skipped_words» .exit)) (now («skipped_bytes» .exit)) ≡ reported r (anySkips (named kind a b p q) (λ (d : Distr). crtSkips d «coefficient_count» (lent (now (bounds .entry)) (now (endpoints .entry)) (now (heights .entry)) (now (curve .entry))) (length (now (output .entry))) (drop place (now (words .entry))))) ⌝ }
@@ -50,6 +51,7 @@ pub extern "C" fn beside_crt(
         place,
     );
     *new_place = answer.place;
+    *index = answer.index;
     *skipped_words = answer.skipped_words;
     *skipped_bytes = answer.skipped_bytes;
     answer.number

@@ -29,10 +29,11 @@ pub extern "C" fn beside_encoded(
     place: usize,
     output: &mut [u64],
     new_place: &mut usize,
+    index: &mut usize,
     skipped_words: &mut u64,
     skipped_bytes: &mut u64,
 ) -> u32
-    ensures { λ r. ⌜ answered r (now («new_place» .exit)) (now (output .exit)) ≡ anyAtOnce (named kind a b p q) place (now (output .entry)) (λ (d : Distr). encodedDraw true d
+    ensures { λ r. ⌜ answered r (now («new_place» .exit)) (now (index .exit)) (now (output .exit)) ≡ anyAtOnce (named kind a b p q) place (now (output .entry)) (λ (d : Distr). encodedDraw true d
         (lent (now (bounds .entry)) (now (endpoints .entry)) (now (heights .entry)) (now (curve .entry)))
         modulus (now (words .entry)) place (now (output .entry))) ⌝ }
     ensures { λ r. ⌜ written (now («skipped_words» .exit)) (now («skipped_bytes» .exit)) ≡ reported r (anySkips (named kind a b p q) (λ (d : Distr). skipsOf d (length (now (output .entry))) (lent (now (bounds .entry)) (now (endpoints .entry)) (now (heights .entry)) (now (curve .entry))) (drop place (now (words .entry))))) ⌝ }
@@ -41,6 +42,7 @@ pub extern "C" fn beside_encoded(
     let by = ResidueMethod { prepared, modulus };
     let answer = sample_encoded_to(output, by, bounds, endpoints, heights, curve, words, place);
     *new_place = answer.place;
+    *index = answer.index;
     *skipped_words = answer.skipped_words;
     *skipped_bytes = answer.skipped_bytes;
     answer.number

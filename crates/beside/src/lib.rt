@@ -1,7 +1,8 @@
 // Serves comparisons, not a user: the calls that a comparison beside the Rust, or beside plain C, makes: a draw by kind, with its sampler made in the call.
-// A draw answers the number, and writes the place through new_place: the old one where the draw is refused. It writes the words that its choices
-// passed over and the bytes that it rejected through skipped_words and skipped_bytes: zeros where it is refused. A report writes its sign and the halves of
-// its sums, zeros where it is refused, and the counts, which are then left. A polynomial from bytes answers the number alone.
+// A draw answers the number, and writes the place through new_place, the old one where the draw is refused, and the index that goes with the number of
+// a bad layer list through index, 0 with every other number. It writes the words that its choices passed over and the
+// bytes that it rejected through skipped_words and skipped_bytes: zeros where it is refused. A report writes its sign and the halves of its sums, zeros
+// where it is refused, and the counts, which are then left. A polynomial from bytes answers the number alone.
 // What a foreign caller must keep, since no contract can ask it of one: every pointer, that of an empty slice too, is aligned for its
 // elements and never null; it is valid for its length, for writing where the slice is the output or the counts; and
 // these, new_place and whatever else a call writes through overlap neither each other nor anything else that the call is lent.

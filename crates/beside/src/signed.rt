@@ -27,10 +27,11 @@ pub extern "C" fn beside_signed(
     place: usize,
     output: &mut [i64],
     new_place: &mut usize,
+    index: &mut usize,
     skipped_words: &mut u64,
     skipped_bytes: &mut u64,
 ) -> u32
-    ensures { λ r. ⌜ answered r (now («new_place» .exit)) (now (output .exit)) ≡ anyAtOnce (named kind a b p q) place (now (output .entry)) (λ (d : Distr). signedDraw true d
+    ensures { λ r. ⌜ answered r (now («new_place» .exit)) (now (index .exit)) (now (output .exit)) ≡ anyAtOnce (named kind a b p q) place (now (output .entry)) (λ (d : Distr). signedDraw true d
         (lent (now (bounds .entry)) (now (endpoints .entry)) (now (heights .entry)) (now (curve .entry)))
         (now (words .entry)) place (now (output .entry))) ⌝ }
     ensures { λ r. ⌜ written (now («skipped_words» .exit)) (now («skipped_bytes» .exit)) ≡ reported r (anySkips (named kind a b p q) (λ (d : Distr). skipsOf d (length (now (output .entry))) (lent (now (bounds .entry)) (now (endpoints .entry)) (now (heights .entry)) (now (curve .entry))) (drop place (now (words .entry))))) ⌝ }
@@ -38,6 +39,7 @@ pub extern "C" fn beside_signed(
     let by = by_kind(kind, a, b, p, q).prepare();
     let answer = sample_signed_to(output, by, bounds, endpoints, heights, curve, words, place);
     *new_place = answer.place;
+    *index = answer.index;
     *skipped_words = answer.skipped_words;
     *skipped_bytes = answer.skipped_bytes;
     answer.number

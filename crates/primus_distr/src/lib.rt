@@ -21,6 +21,8 @@ pub use error_sampler::ErrorSampler;
 pub use error_sampler::MadeErrorSampler;
 pub use gaussian::MadeSignedDiscreteGaussian;
 pub use gaussian::SignedDiscreteGaussian;
+pub use layer_tables::LayerFault;
+pub use layer_tables::check_layer_tables;
 pub use poly_cbd::sample_poly_cbd;
 pub use secret_key_sampler::MadeSecretKeySampler;
 pub use secret_key_sampler::SecretKeySampler;
