@@ -1,5 +1,5 @@
 // The library by example, through `primus_distr` alone. A line is a name, the number, the place after the draw and what the output holds, and of a
-// report the number, the sums and the counts, and of a polynomial the number and four coefficients; the file `stdout` is worked out by hand from documents 01 and 02. Every output is 9 throughout before its draw, so what a refusal leaves is seen.
+// report the number, the sums and the counts, of a polynomial the number and four coefficients, and of layer tables the number and the index; the file `stdout` is worked out by hand from documents 01 and 02. Every output is 9 throughout before its draw, so what a refusal leaves is seen.
 mod print;
 mod refusals;
 
@@ -11,6 +11,7 @@ use primus_distr::SecretKeyDistr;
 use primus_distr::SecretKeySampler;
 use primus_distr::SignedDiscreteGaussian;
 use primus_distr::TernarySampler;
+use primus_distr::check_layer_tables;
 use primus_distr::crt_row;
 use primus_distr::crt_row_range;
 use primus_distr::draw_question;
@@ -73,6 +74,32 @@ fn gaussian() {
     let mut output = [9i64; 2];
     let answer = sampler.sample_to(&mut output, &bounds, &[], &[], &[], &words, 0);
     print::signed_line(b"gaussian", answer, &output);
+}
+
+// The deviation 64 has the support 768, and zeros in lists of 129, 129 and 769 are as many as 128 layers have: the last endpoint, at index 128, is the
+// first that is wrong, since it is not 768. With 129 curve values the lengths do not fit: 13. A draw by the lists is refused by 30 with that index; one
+// from a place past the words by 22, with index 0.
+fn layers(endpoints: &[u64], heights: &[f64], curve: &[f64]) {
+    let fault = check_layer_tables(768, endpoints, heights, curve);
+    print::index_line(b"layers of zeros", fault.number, fault.index);
+    let fewer = check_layer_tables(768, endpoints, heights, heights);
+    print::index_line(b"curve values too few", fewer.number, fewer.index);
+    layered(b"a draw by them", endpoints, heights, curve, 1);
+    layered(b"one from place 2", endpoints, heights, curve, 2);
+}
+
+// A draw by layers from a place of one word: its number and its index, then its number, its place and its output.
+fn layered(name: &[u8], endpoints: &[u64], heights: &[f64], curve: &[f64], place: usize) {
+    let sampler = SignedDiscreteGaussian::new(64.0).sampler;
+    let mut output = [9i64; 2];
+    let answer = sampler.sample_to(&mut output, &[], endpoints, heights, curve, &[5], place);
+    print::index_line(name, answer.number, answer.index);
+    print::signed_line(name, answer, &output);
+}
+
+// Lists of zeros.
+fn layers_of_zeros() {
+    layers(&[0; 129], &[0.0; 129], &[0.0; 769]);
 }
 
 // Probabilities of 1/4 have the ends 2^62 and 2^63: the 64-bit words 0, 2^62 and 2^63 give -1, 1 and 0.
@@ -146,6 +173,7 @@ fn main() {
     errors();
     centered_binomial();
     gaussian();
+    layers_of_zeros();
     ternary();
     at_once();
     skipped();

@@ -42,6 +42,12 @@ pub(crate) fn number_line(name: &[u8], number: u32) {
     end();
 }
 
+// A line of a number and the index that goes with it.
+pub(crate) fn index_line(name: &[u8], number: u32, index: usize) {
+    head(name, number, index);
+    end();
+}
+
 // A line of a signed draw.
 pub(crate) fn signed_line(name: &[u8], answer: Answer, values: &[i64]) {
     head(name, answer.number, answer.place);
