@@ -172,9 +172,8 @@ pub fn check_layer_tables(
 pub fn index_with(number: u32, fault: LayerFault) -> usize
     ensures { λ r. ⌜ r ≡ cond (eqb number (fault .number)) (fault .index) 0 ⌝ }
 {
-    if number == fault.number {
-        fault.index
-    } else {
-        0
+    if number != fault.number {
+        return 0;
     }
+    fault.index
 }

@@ -42,7 +42,7 @@ pub fn residue_number(method: SamplingMethod, length: usize, modulus: u64) -> u3
     modulus_number(maximum_magnitude(method), modulus)
 }
 
-// Draws residues over the whole output. The modulus is judged after the length and before the tables: 22, 6, 7 or 8, 10, 9, 12 or 13, 23. A centered
+// Draws residues over the whole output. The modulus is judged after the length and before the tables: 22, 6, 7 or 8, 10, 9, the tables', 23. A centered
 // binomial's draw is a CRT draw of one row, so a modulus of 0 gives 10 there.
 pub fn sample_encoded_to(
     output: &mut [u64],
