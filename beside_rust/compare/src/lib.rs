@@ -1,9 +1,9 @@
 //! The draws of the Rust files and of the Rattle engine behind one trait, and the requests that are put to them.
 
 pub mod crafted;
+pub mod damaged;
 pub mod families;
 pub mod gaussians;
-#[cfg(not(feature = "engine"))]
 pub mod model_side;
 pub mod prepared;
 #[cfg(feature = "engine")]
@@ -62,19 +62,24 @@ impl Distr {
 }
 
 /// Document 01's number, 0 for success, and the place; document 02's sums: the words that the choices passed over, and the
-/// bytes that uniform ternary rejected.
+/// bytes that uniform ternary rejected; and its index, of the first wrong figure with 30 to 32, 0 with every other number.
 #[derive(Clone, Copy, Debug, PartialEq, Eq)]
 pub struct Answer {
     pub number: u32,
     pub place: usize,
+    pub index: usize,
     pub skipped_words: u64,
     pub skipped_bytes: u64,
 }
 
 impl Answer {
+    pub fn success(place: usize, skipped_words: u64, skipped_bytes: u64) -> Self {
+        Self { number: 0, place, index: 0, skipped_words, skipped_bytes }
+    }
+
     /// "A refused call reports zeros."
     pub fn refused(number: u32, place: usize) -> Self {
-        Self { number, place, skipped_words: 0, skipped_bytes: 0 }
+        Self { number, place, index: 0, skipped_words: 0, skipped_bytes: 0 }
     }
 }
 

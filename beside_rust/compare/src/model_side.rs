@@ -1,4 +1,5 @@
-//! Document 01, and 02's sums, in plain Rust, written from their text: the other side where the engine is not linked.
+//! Document 01, with 02's sums and layer lists, in plain Rust, written from their text: the other side where the engine is not
+//! linked, and what the engine is held to over damaged layer lists.
 
 use crate::{Answer, Distr, Engine, Kind, Tables, rust_side::RustSide};
 
@@ -221,29 +222,47 @@ fn length_number(distr: &Distr, n: usize) -> u32 {
     }
 }
 
-/// 12 or 13.
-fn table_number(distr: &Distr, tables: &Tables) -> u32 {
-    let most = support(distr.p);
-    let rising =
-        |list: &[u64], count, last| list.len() == count && list[0] == 0 && list[count - 1] == last && list.is_sorted();
-    let Tables { bounds, endpoints, heights, curve } = tables;
+/// What the tables are refused by: 12, or a number of the layer lists with its index.
+fn table_fault(distr: &Distr, tables: &Tables) -> (u32, usize) {
+    let (most, bounds) = (support(distr.p), &tables.bounds);
     if !distr.is_gaussian() {
-        0
+        (0, 0)
     } else if most <= 255 {
-        if rising(bounds, most as usize + 2, u64::MAX) { 0 } else { 12 }
+        let good = bounds.len() as u64 == most + 2
+            && bounds.first() == Some(&0)
+            && bounds.last() == Some(&u64::MAX)
+            && bounds.is_sorted();
+        (if good { 0 } else { 12 }, 0)
     } else {
-        let layers = endpoints.len().wrapping_sub(1);
-        let good = [128, 256, 512].contains(&layers)
-            && rising(endpoints, layers + 1, most)
-            && heights.len() == layers + 1
-            && heights.iter().all(|height| height.is_finite())
-            && heights.is_sorted_by(|above, below| above > below)
-            && heights[0] > 0.999
-            && heights[layers] == 0.0
-            && curve.len() == most as usize + 1
-            && curve.iter().all(|value| (0.0..=1.0).contains(value));
-        if good { 0 } else { 13 }
+        layer_fault(most, tables)
     }
+}
+
+/// "13 covers only a wrong R or a wrong list length. The order is 13, endpoints, heights, curve. It refuses with 30 an
+/// endpoint that breaks document 01, with 31 a height, with 32 a curve value, each together with the first index that is
+/// wrong (the later of a pair out of order)."
+fn layer_fault(most: u64, tables: &Tables) -> (u32, usize) {
+    let Tables { endpoints, heights, curve, .. } = tables;
+    let lengths = [endpoints.len(), heights.len(), curve.len()];
+    if ![128, 256, 512].map(|layers| [layers + 1, layers + 1, most as usize + 1]).contains(&lengths) {
+        return (13, 0);
+    }
+    let last = endpoints.len() - 1;
+    let right_endpoint = |i: usize| match i {
+        0 => endpoints[0] == 0,
+        _ => endpoints[i - 1] <= endpoints[i] && (i < last || endpoints[i] == most),
+    };
+    let right_height = |i: usize| match i {
+        0 => heights[0].is_finite() && heights[0] > 0.999,
+        _ => heights[i].is_finite() && heights[i - 1] > heights[i] && (i < last || heights[i] == 0.0),
+    };
+    let right_value = |i: usize| (0.0..=1.0).contains(&curve[i]);
+    let firsts = [
+        (30, (0..=last).find(|&i| !right_endpoint(i))),
+        (31, (0..=last).find(|&i| !right_height(i))),
+        (32, (0..curve.len()).find(|&i| !right_value(i))),
+    ];
+    firsts.into_iter().find_map(|(number, first)| Some((number, first?))).unwrap_or((0, 0))
 }
 
 fn past_end(words: &[u32], place: usize) -> u32 {
@@ -254,9 +273,14 @@ fn too_long(n: usize) -> u32 {
     if n > 65_536 { 6 } else { 0 }
 }
 
-/// The first number that refuses, or the draw.
+/// The first number that refuses, and its index; the tables come after the others.
+fn first_fault(numbers: &[u32], tables: (u32, usize)) -> (u32, usize) {
+    numbers.iter().find(|&&number| number != 0).map_or(tables, |&number| (number, 0))
+}
+
+/// The number that refuses, with its index, or the draw.
 fn drawn<T: Copy>(
-    numbers: &[u32],
+    (number, index): (u32, usize),
     coefficients: impl FnOnce(&mut Left) -> Option<Vec<i64>>,
     words: &[u32],
     place: usize,
@@ -264,8 +288,8 @@ fn drawn<T: Copy>(
     output: &mut [T],
     write: impl FnOnce(&[i64], &mut [T]),
 ) -> Answer {
-    if let Some(&number) = numbers.iter().find(|&&number| number != 0) {
-        return Answer::refused(number, place);
+    if number != 0 {
+        return Answer { index, ..Answer::refused(number, place) };
     }
     let mut left = Left { words, place, skipped_words: 0, skipped_bytes: 0 };
     let Some(list) = coefficients(&mut left) else {
@@ -274,7 +298,7 @@ fn drawn<T: Copy>(
     };
     write(&list, output);
     let Left { place, skipped_words, skipped_bytes, .. } = left;
-    Answer { number: 0, place, skipped_words, skipped_bytes }
+    Answer::success(place, skipped_words, skipped_bytes)
 }
 
 /// "−m becomes modulus − m, zero stays 0."
@@ -293,9 +317,10 @@ impl Engine for ModelSide {
 
     fn signed(&self, distr: &Distr, tables: &Tables, words: &[u32], place: usize, output: &mut [i64]) -> Answer {
         let n = output.len();
-        let numbers = [past_end(words, place), too_long(n), length_number(distr, n), table_number(distr, tables)];
+        let numbers = [past_end(words, place), too_long(n), length_number(distr, n)];
+        let fault = first_fault(&numbers, table_fault(distr, tables));
         let rules = |left: &mut Left| coefficients(distr, n, tables, left);
-        drawn(&numbers, rules, words, place, 0, output, |list, output| output.copy_from_slice(list))
+        drawn(fault, rules, words, place, 0, output, |list, output| output.copy_from_slice(list))
     }
 
     fn encoded(
@@ -312,10 +337,10 @@ impl Engine for ModelSide {
             return self.crt(distr, (n, &[modulus]), tables, words, place, output);
         }
         let modulus_number = if modulus <= largest(distr) { 9 } else { 0 };
-        let numbers =
-            [past_end(words, place), too_long(n), length_number(distr, n), modulus_number, table_number(distr, tables)];
+        let numbers = [past_end(words, place), too_long(n), length_number(distr, n), modulus_number];
+        let fault = first_fault(&numbers, table_fault(distr, tables));
         let rules = |left: &mut Left| coefficients(distr, n, tables, left);
-        drawn(&numbers, rules, words, place, 0, output, |list, output| {
+        drawn(fault, rules, words, place, 0, output, |list, output| {
             for (residue, &value) in output.iter_mut().zip(list) {
                 *residue = encode(value, modulus);
             }
@@ -338,10 +363,10 @@ impl Engine for ModelSide {
             modulus if modulus <= largest(distr) => 9,
             _ => 0,
         }));
-        numbers.push(table_number(distr, tables));
+        let fault = first_fault(&numbers, table_fault(distr, tables));
         let n = if output.is_empty() { 0 } else { count };
         let rules = |left: &mut Left| coefficients(distr, n, tables, left);
-        drawn(&numbers, rules, words, place, 0, output, |list, output| {
+        drawn(fault, rules, words, place, 0, output, |list, output| {
             for (row, &modulus) in moduli.iter().enumerate() {
                 for (column, &value) in list.iter().enumerate() {
                     output[row * count + column] = encode(value, modulus);

@@ -25,6 +25,7 @@ unsafe extern "C" {
         output: *mut i64,
         output_len: usize,
         new_place: *mut usize,
+        index: *mut usize,
         skipped_words: *mut u64,
         skipped_bytes: *mut u64,
     ) -> u32;
@@ -50,6 +51,7 @@ unsafe extern "C" {
         output: *mut u64,
         output_len: usize,
         new_place: *mut usize,
+        index: *mut usize,
         skipped_words: *mut u64,
         skipped_bytes: *mut u64,
     ) -> u32;
@@ -77,6 +79,7 @@ unsafe extern "C" {
         output: *mut u64,
         output_len: usize,
         new_place: *mut usize,
+        index: *mut usize,
         skipped_words: *mut u64,
         skipped_bytes: *mut u64,
     ) -> u32;
@@ -100,10 +103,10 @@ unsafe extern "C" {
 pub struct RattleSide;
 
 /// Calls a draw: the distribution, what is particular to the call, the tables, the words, the output, and what it writes
-/// beside its number. The sums start at what no draw reports.
+/// beside its number. Index and sums start at what no draw reports.
 macro_rules! draw {
     ($call:ident, $distr:ident, ($($own:expr),*), $tables:ident, $words:ident, $place:ident, $output:ident) => {{
-        let (mut place, mut skipped_words, mut skipped_bytes) = ($place, u64::MAX, u64::MAX);
+        let (mut place, mut index, mut skipped_words, mut skipped_bytes) = ($place, usize::MAX, u64::MAX, u64::MAX);
         // SAFETY: each pointer goes with its slice's length, and the engine touches nothing else.
         let number = unsafe {
             $call(
@@ -111,10 +114,10 @@ macro_rules! draw {
                 $tables.bounds.as_ptr(), $tables.bounds.len(), $tables.endpoints.as_ptr(), $tables.endpoints.len(),
                 $tables.heights.as_ptr(), $tables.heights.len(), $tables.curve.as_ptr(), $tables.curve.len(),
                 $words.as_ptr(), $words.len(), $place,
-                $output.as_mut_ptr(), $output.len(), &mut place, &mut skipped_words, &mut skipped_bytes,
+                $output.as_mut_ptr(), $output.len(), &mut place, &mut index, &mut skipped_words, &mut skipped_bytes,
             )
         };
-        Answer { number, place, skipped_words, skipped_bytes }
+        Answer { number, place, index, skipped_words, skipped_bytes }
     }};
 }
 

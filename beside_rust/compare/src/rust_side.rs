@@ -175,7 +175,7 @@ fn settled<T: Default + Copy>(drawn: Result<(usize, u64), u32>, place: usize, ou
         output.fill(T::default());
     }
     match drawn {
-        Ok((place, skipped_words)) => Answer { number: 0, place, skipped_words, skipped_bytes: 0 },
+        Ok((place, skipped_words)) => Answer::success(place, skipped_words, 0),
         Err(number) => Answer::refused(number, place),
     }
 }

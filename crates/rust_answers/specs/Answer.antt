@@ -29,3 +29,7 @@ shown offset output = cond (leb (length output) 66) output (digest offset 1 outp
 -- What is stored of an answer: the number, the new place, how many words and how many bytes were skipped and, for number 0, the output.
 unfoldable pub answerLine : ℕ → ℕ → ℕ → ℕ → ℕ → List ℕ → List ℕ
 answerLine offset number place words bytes output = number ∷ place ∷ words ∷ bytes ∷ cond (eqb number 0) (shown offset output) []
+
+-- Whether a stored answer is this one. Every stored answer is one of the Rust, whose numbers name no index: 02 [6], "index 0 accompanies every other number".
+abbrev pub agreesWith : List ℕ → ℕ → List ℕ → Bool
+agreesWith stored index line = eqb index 0 && same stored line

@@ -1,6 +1,6 @@
 // The comparison of an answer with the stored one.
 ghost use mathlib.Core.Path.{_≡_};
-ghost use Rattle.rust_answers.specs.Answer.{same as sameAs, digestWith, digest as digestOf, shown, answerLine};
+ghost use Rattle.rust_answers.specs.Answer.{same as sameAs, digestWith, digest as digestOf, shown, answerLine, agreesWith};
 
 // Outputs up to this length are stored whole, longer ones by their digest.
 const SHOWN: usize = 66;
@@ -56,19 +56,23 @@ fn is_shown(offset: u64, stored: &[u64], output: &[u64]) -> bool
     same(stored, &digests)
 }
 
-// Whether a stored answer is this one: number, place, the words and the bytes that were skipped and, for number 0, the output. The offset
-// is what a digest adds to each element.
+// Whether a stored answer is this one: number, place, the words and the bytes that were skipped and, for number 0, the output. The index is
+// that of a stored answer, 0. The offset is what a digest adds to each element.
 pub(crate) fn agrees(
     offset: u64,
     stored: &[u64],
     number: u32,
     place: usize,
+    index: usize,
     skipped_words: u64,
     skipped_bytes: u64,
     output: &[u64],
 ) -> bool
-    ensures { λ r. ⌜ r ≡ sameAs (now (stored .entry)) (answerLine offset number place «skipped_words» «skipped_bytes» (now (output .entry))) ⌝ }
+    ensures { λ r. ⌜ r ≡ agreesWith (now (stored .entry)) index (answerLine offset number place «skipped_words» «skipped_bytes» (now (output .entry))) ⌝ }
 {
+    if index != 0 {
+        return false;
+    }
     if stored.len() < 4 {
         return false;
     }

@@ -66,6 +66,7 @@ fn signed(
     place: usize,
     output: &mut [u64],
     after: &mut usize,
+    index: &mut usize,
     skipped_words: &mut u64,
     skipped_bytes: &mut u64,
 ) -> u32 {
@@ -90,6 +91,7 @@ fn signed(
         place,
         coefficients,
         after,
+        index,
         skipped_words,
         skipped_bytes,
     );
@@ -106,6 +108,7 @@ fn encoded(
     place: usize,
     output: &mut [u64],
     after: &mut usize,
+    index: &mut usize,
     skipped_words: &mut u64,
     skipped_bytes: &mut u64,
 ) -> u32 {
@@ -126,6 +129,7 @@ fn encoded(
         place,
         output,
         after,
+        index,
         skipped_words,
         skipped_bytes,
     )
@@ -140,6 +144,7 @@ fn crt(
     place: usize,
     output: &mut [u64],
     after: &mut usize,
+    index: &mut usize,
     skipped_words: &mut u64,
     skipped_bytes: &mut u64,
 ) -> u32 {
@@ -161,6 +166,7 @@ fn crt(
         place,
         output,
         after,
+        index,
         skipped_words,
         skipped_bytes,
     )
@@ -175,6 +181,7 @@ fn by_tag(
     place: usize,
     output: &mut [u64],
     after: &mut usize,
+    index: &mut usize,
     skipped_words: &mut u64,
     skipped_bytes: &mut u64,
 ) -> u32 {
@@ -187,6 +194,7 @@ fn by_tag(
             place,
             output,
             after,
+            index,
             skipped_words,
             skipped_bytes,
         ),
@@ -198,6 +206,7 @@ fn by_tag(
             place,
             output,
             after,
+            index,
             skipped_words,
             skipped_bytes,
         ),
@@ -209,6 +218,7 @@ fn by_tag(
             place,
             output,
             after,
+            index,
             skipped_words,
             skipped_bytes,
         ),
@@ -229,6 +239,7 @@ fn number_of(
     place: usize,
     output: &mut [u64],
     after: &mut usize,
+    index: &mut usize,
     skipped_words: &mut u64,
     skipped_bytes: &mut u64,
 ) -> u32 {
@@ -246,6 +257,7 @@ fn number_of(
         place,
         output,
         after,
+        index,
         skipped_words,
         skipped_bytes,
     )
@@ -256,8 +268,8 @@ fn offset_of(tag: u64) -> u64 {
     if tag == 2 { 4096 } else { 0 }
 }
 
-// A draw by words. The length of the output stands at index 8; the place and then the answer follow the words. The sums start at 9, so
-// that those which a call does not write are noticed.
+// A draw by words. The length of the output stands at index 8; the place and then the answer follow the words. The index and
+// the sums start at 9, so that those which a call does not write are noticed.
 fn drawn(room: &[u64], words: &[u32], place: usize, stored: &[u64]) -> bool {
     let values = kept(room, ANSWER);
     let n = size_at(values, 8);
@@ -267,6 +279,7 @@ fn drawn(room: &[u64], words: &[u32], place: usize, stored: &[u64]) -> bool {
     let mut residues = residues_room();
     let output = &mut residues[0..n];
     let mut after = 0;
+    let mut index = 9;
     let mut skipped_words = 9;
     let mut skipped_bytes = 9;
     let number = number_of(
@@ -275,6 +288,7 @@ fn drawn(room: &[u64], words: &[u32], place: usize, stored: &[u64]) -> bool {
         place,
         output,
         &mut after,
+        &mut index,
         &mut skipped_words,
         &mut skipped_bytes,
     );
@@ -283,6 +297,7 @@ fn drawn(room: &[u64], words: &[u32], place: usize, stored: &[u64]) -> bool {
         stored,
         number,
         after,
+        index,
         skipped_words,
         skipped_bytes,
         output,

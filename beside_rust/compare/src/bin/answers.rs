@@ -89,14 +89,14 @@ fn skipping_lines(skipping: &Skipping) -> String {
         assert_eq!(outcome.answer, answer, "{draw:?}");
         text += &draw_line(&prepared, &draw);
     };
-    let sums = |place| Answer { number: 0, place, skipped_words: *skipped_words, skipped_bytes: *skipped_bytes };
+    let sums = |place| Answer::success(place, *skipped_words, *skipped_bytes);
     line(Call::Signed { n }, words.clone(), 0, sums(count));
     let among_others = [&[LAST, LAST], &words[..], &[LAST]].concat();
     line(Call::Encoded { n, modulus: MODULI[0] }, among_others.clone(), 2, sums(2 + count));
     if matches!(distr.kind, Kind::CenteredBinomial | Kind::ErrorGaussian) {
         let shape = |n| Call::Crt { length: MODULI.len() * n, count: n, moduli: MODULI.to_vec() };
         line(shape(n), among_others.clone(), 2, sums(2 + count));
-        line(shape(0), among_others, 2, Answer { number: 0, place: 2, skipped_words: 0, skipped_bytes: 0 });
+        line(shape(0), among_others, 2, Answer::success(2, 0, 0));
     }
     if count > 0 {
         line(Call::Signed { n }, words[..count - 1].to_vec(), 0, Answer::refused(23, 0));
@@ -119,7 +119,8 @@ fn draw_line(prepared: &Prepared, draw: &Draw) -> String {
         }
     };
     write!(line, " {} {} {}{}", words.count, words.seed, words.given.len(), joined(&words.given)).unwrap();
-    let Answer { number, place: new_place, skipped_words, skipped_bytes } = outcome.answer;
+    let Answer { number, place: new_place, index, skipped_words, skipped_bytes } = outcome.answer;
+    assert_eq!(index, 0, "the Rust names none");
     write!(line, " {place} {number} {new_place} {skipped_words} {skipped_bytes}").unwrap();
     if number == 0 {
         let signed = matches!(call, Call::Signed { .. });

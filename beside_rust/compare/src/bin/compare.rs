@@ -1,5 +1,5 @@
-//! Puts the same requests to the Rust and to the other side, and compares number, place, both sums of what was skipped, and
-//! every element of the output.
+//! Puts the same requests to the Rust and to the other side, and compares number, place, index, both sums of what was
+//! skipped, and every element of the output; requests over damaged layer lists are put to the model instead of the Rust.
 //! Arguments: how many random requests for each family (1,000,000 where none is given), and a seed.
 
 use std::env;
@@ -7,8 +7,10 @@ use std::env;
 use compare::{
     Call, Engine, Kind, OtherSide, Outcome, UNTOUCHED, ask,
     crafted::Given,
+    damaged,
     families::{Family, makings, random_request},
     gaussians::gaussians,
+    model_side::ModelSide,
     prepared::{Draw, Prepared},
     rust_side::{RustSide, print_no_refusals},
     word_list::{Random, WordList},
@@ -79,6 +81,61 @@ fn described(draw: &Draw, words: &[u32], rust: &Outcome, other: &Outcome) -> Str
     )
 }
 
+/// The numbers by which requests over damaged layer lists are counted apart: 13, and those that have an index.
+const LIST_NUMBERS: [u32; 4] = [13, 30, 31, 32];
+
+/// What was compared over damaged layer lists.
+#[derive(Default)]
+struct DamagedCounts {
+    requests: u64,
+    answered: u64,
+    short: u64,
+    by_number: [u64; LIST_NUMBERS.len()],
+    /// The requests whose index is not 0.
+    indexed: u64,
+    differing: u64,
+    /// The disagreement with the fewest changes, words and coefficients.
+    smallest: Option<(usize, String)>,
+}
+
+impl DamagedCounts {
+    fn compare(&mut self, request: &damaged::Request) {
+        let damaged::Request { draw, tables, damages } = request;
+        let words = draw.words.words();
+        let model = ask(&ModelSide, &draw.distr, &draw.call, tables, &words, draw.place);
+        let other = ask(&OtherSide, &draw.distr, &draw.call, tables, &words, draw.place);
+        let number = model.answer.number;
+        self.requests += 1;
+        self.answered += u64::from(number == 0);
+        self.short += u64::from(number == 23);
+        for (count, listed) in self.by_number.iter_mut().zip(LIST_NUMBERS) {
+            *count += u64::from(number == listed);
+        }
+        self.indexed += u64::from(model.answer.index > 0);
+        if model != other {
+            self.differing += 1;
+            let size = damages.len() + words.len() + model.output.len();
+            if self.smallest.as_ref().is_none_or(|(smallest, _)| size < *smallest) {
+                let Draw { distr, call, words, place } = draw;
+                let text = format!("  {distr:?} {call:?}\n  {damages:?}\n  {words:?} place {place}");
+                self.smallest = Some((size, format!("{text}\n  model {model:?}\n  other {other:?}")));
+            }
+        }
+    }
+
+    fn print(&self, what: &str) {
+        let Self { requests, answered, short, by_number, indexed, differing, smallest } = self;
+        print!("{:18} {what:12} {requests:>9} {answered:>9} {short:>9}", "damaged lists");
+        for count in by_number {
+            print!(" {count:>9}");
+        }
+        println!(" {indexed:>11} {differing:>9}");
+        if let Some((_, text)) = smallest {
+            println!("{text}");
+        }
+    }
+}
+
 fn main() {
     let mut arguments = env::args().skip(1).map(|text| text.parse().expect("a whole number"));
     let requests = arguments.next().unwrap_or(1_000_000);
@@ -99,11 +156,12 @@ fn main() {
         for _ in 0..requests {
             random_comparison(family, &pool, &mut random, &mut counts);
         }
-        for (counts, what) in counts.iter().zip(["signed", "encoded", "CRT"]) {
+        for (counts, what) in counts.iter().zip(CALLS) {
             counts.print(family.name(), what);
             disagreements += counts.differing;
         }
     }
+    disagreements += damaged_lists(requests, &mut random);
     println!("{disagreements} disagreements");
     std::process::exit((disagreements != 0).into());
 }
@@ -112,6 +170,36 @@ fn gaussians_of(family: Family, random: &mut Random) -> Vec<Prepared> {
     match family {
         Family::Cumulative | Family::Layered => gaussians(family, 40, random),
         _ => Vec::new(),
+    }
+}
+
+/// So many requests over damaged layer lists; how many disagree.
+fn damaged_lists(requests: u64, random: &mut Random) -> u64 {
+    let [layered, cumulative] = [Family::Layered, Family::Cumulative].map(|family| gaussians_of(family, random));
+    let mut counts = [DamagedCounts::default(), DamagedCounts::default(), DamagedCounts::default()];
+    for _ in 0..requests {
+        let request = damaged::request(&layered, &cumulative, random);
+        counts[which(&request.draw.call)].compare(&request);
+    }
+    print!("{:31} {:>9} {:>9} {:>9}", "", "requests", "answered", "short");
+    for number in LIST_NUMBERS {
+        print!(" {number:>9}");
+    }
+    println!(" {:>11} {:>9}", "index not 0", "differ");
+    for (counts, what) in counts.iter().zip(CALLS) {
+        counts.print(what);
+    }
+    counts.iter().map(|counts| counts.differing).sum()
+}
+
+/// The calls, and which of them one is.
+const CALLS: [&str; 3] = ["signed", "encoded", "CRT"];
+
+fn which(call: &Call) -> usize {
+    match call {
+        Call::Signed { .. } => 0,
+        Call::Encoded { .. } => 1,
+        Call::Crt { .. } => 2,
     }
 }
 
@@ -132,11 +220,7 @@ fn random_comparison(family: Family, pool: &[Prepared], random: &mut Random, cou
         _ if what == 0 => Call::Signed { n },
         _ => Call::Encoded { n, modulus: prepared.modulus(random) },
     };
-    let what = match call {
-        Call::Signed { .. } => 0,
-        Call::Encoded { .. } => 1,
-        Call::Crt { .. } => 2,
-    };
+    let what = which(&call);
     let given = random.pick(&[Given::Nothing, Given::Nothing, Given::Edges, Given::Skips]);
     let draw = prepared.draw(call, given, random);
     counts[what].compare(prepared, &draw, &draw.words.words());

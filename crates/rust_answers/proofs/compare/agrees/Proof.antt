@@ -1,4 +1,4 @@
--- `compare::agrees` compares the number, the place, both sums and what follows them.
+-- `compare::agrees` compares the index, the number, the place, both sums and what follows them.
 use mathlib.Core.Path.{_≡_, refl, sym, ap, _∙_}
 use mathlib.Core.Bool.{Bool, false, _&&_, and-assoc, and-false}
 use mathlib.Core.List.{List, [], _∷_}
@@ -46,31 +46,35 @@ tail : (s : List ℕ) → take (length s - 4) (drop 4 s) ≡ drop 4 s
 tail s = take-all (length s - 4) (drop 4 s) (simp length-drop (omega arith))
 
 returns : tie.Need-returns
-unfolding answerLine
-returns c =
-    let a = c .before .before .before .args in
-    sym (short (a .stored .now) _ (a .number) (a .place) (a .skipped-words) (a .skipped-bytes) (c .if1 .taken))
+returns c = rw (ne-eqb (c .before .before .before .args .index) 0 (c .if1 .taken)) refl
 
 returns-2 : tie.Need-returns-2
 unfolding answerLine
 returns-2 c =
-    let tested = c .before .before .before .before .before .before in
-    let a = tested .before .before .before .args in
-    let s = a .stored .now in
-    rw (ne-eqb (a .number) 0 (c .if2 .taken), tail s, none (drop 4 s))
-    (joined s [] (a .number) (a .place) (a .skipped-words) (a .skipped-bytes) (tested .if1 .left))
+    let a = c .before .before .before .before .args in
+    rw (eq-eqb (a .index) 0 (c .before .if1 .left))
+    (sym (short (a .stored .now) _ (a .number) (a .place) (a .skipped-words) (a .skipped-bytes) (c .if2 .taken)))
 
 returns-3 : tie.Need-returns-3
 unfolding answerLine
 returns-3 c =
-    let tested = c .before .before .before .before .before .before .before in
-    let a = tested .before .before .before .args in
+    let tested = c .before .before .before .before .before .before in
+    let a = tested .before .before .before .before .args in
     let s = a .stored .now in
-    rw (eq-eqb (a .number) 0 (c .before .if2 .left), c .is-shown .ensures, tail s)
-    (joined s (shown (a .offset) (a .output .now)) (a .number) (a .place) (a .skipped-words) (a .skipped-bytes) (tested .if1 .left))
+    rw (eq-eqb (a .index) 0 (tested .before .if1 .left), ne-eqb (a .number) 0 (c .if3 .taken), tail s, none (drop 4 s))
+    (joined s [] (a .number) (a .place) (a .skipped-words) (a .skipped-bytes) (tested .if2 .left))
+
+returns-4 : tie.Need-returns-4
+unfolding answerLine
+returns-4 c =
+    let tested = c .before .before .before .before .before .before .before in
+    let a = tested .before .before .before .before .args in
+    let s = a .stored .now in
+    rw (eq-eqb (a .index) 0 (tested .before .if1 .left), eq-eqb (a .number) 0 (c .before .if3 .left), c .is-shown .ensures, tail s)
+    (joined s (shown (a .offset) (a .output .now)) (a .number) (a .place) (a .skipped-words) (a .skipped-bytes) (tested .if2 .left))
 
 pub agrees-spec : {M : Type 1} → statement M
 agrees-spec =
     tie.close
-    (tie.spec returns (λ c. search needs) (λ c. search needs) (λ c. search needs) (λ c. search needs) (λ c. search needs) (λ c. search needs)
-    (λ c. search needs) returns-2 (λ c κs. search needs) returns-3)
+    (tie.spec returns returns-2 (λ c. search needs) (λ c. search needs) (λ c. search needs) (λ c. search needs) (λ c. search needs) (λ c. search needs)
+    (λ c. search needs) returns-3 (λ c κs. search needs) returns-4)
