@@ -3,7 +3,7 @@ ghost use mathlib.Core.Path.{_≡_};
 ghost use Rattle.residue_text.specs.Numbers.{numberOf};
 
 // The largest number of 64 bits.
-pub(crate) const ALL: u64 = 0xffff_ffff_ffff_ffff;
+pub const ALL: u64 = 0xffff_ffff_ffff_ffff;
 
 // Whether a token is a number of at most so much, and its value: 0 where it is none.
 pub(crate) struct Number {

@@ -10,13 +10,13 @@ ghost use Rattle.decimal.specs.Decimal.{front};
 ghost use Rattle.residue_text.specs.Numbers.{numbersIn, numbersRead};
 
 // How many numbers were read, and whether a token is left over: one that is no such number, or that there is no room for.
-pub(crate) struct Numbers {
+pub struct Numbers {
     pub count: usize,
     pub more: bool,
 }
 
 // Reads numbers of at most `most` into a room, up to the first token that is none or that there is no room for.
-pub(crate) fn read_numbers(text: &[u8], most: u64, numbers: &mut [u64]) -> Numbers
+pub fn read_numbers(text: &[u8], most: u64, numbers: &mut [u64]) -> Numbers
     ensures { λ r. ⌜ r ≡ numbersRead (numbersIn most (now (text .entry)) (now (numbers .entry))) (now (text .entry)) ⌝ }
     ensures { λ r. ⌜ now (numbers .exit) ≡ front (numbersIn most (now (text .entry)) (now (numbers .entry))) (now (numbers .entry)) ⌝ }
     ensures { λ r. ⌜ r .count ≤ length (now (numbers .entry)) ⌝ }
