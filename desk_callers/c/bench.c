@@ -14,11 +14,11 @@
 uint32_t beside_signed(uint32_t kind, size_t a, size_t b, double p, double q, const uint64_t *bounds, size_t bounds_length, const uint64_t *endpoints,
                        size_t endpoints_length, const double *heights, size_t heights_length, const double *curve, size_t curve_length,
                        const uint32_t *words, size_t words_length, size_t place, int64_t *output, size_t output_length, size_t *new_place,
-                       uint64_t *skipped_words, uint64_t *skipped_bytes);
+                       size_t *index, uint64_t *skipped_words, uint64_t *skipped_bytes);
 uint32_t beside_encoded(uint32_t kind, size_t a, size_t b, double p, double q, uint64_t modulus, const uint64_t *bounds, size_t bounds_length,
                         const uint64_t *endpoints, size_t endpoints_length, const double *heights, size_t heights_length, const double *curve,
                         size_t curve_length, const uint32_t *words, size_t words_length, size_t place, uint64_t *output, size_t output_length,
-                        size_t *new_place, uint64_t *skipped_words, uint64_t *skipped_bytes);
+                        size_t *new_place, size_t *index, uint64_t *skipped_words, uint64_t *skipped_bytes);
 
 #define MODULUS 3329
 
@@ -80,15 +80,15 @@ static double time_engine(uint32_t kind, uint32_t a, uint32_t b, uint32_t modulu
 {
     static const uint64_t none[1];
     static const double nothing[1];
-    size_t place;
+    size_t place, index;
     uint64_t skipped_words, skipped_bytes;
     double start = now();
     if (modulus == 0) {
-        must(beside_signed(kind, a, b, 0, 0, none, 0, none, 0, nothing, 0, nothing, 0, words, words_length, 0, coefficients, n, &place, &skipped_words,
-                           &skipped_bytes));
+        must(beside_signed(kind, a, b, 0, 0, none, 0, none, 0, nothing, 0, nothing, 0, words, words_length, 0, coefficients, n, &place, &index,
+                           &skipped_words, &skipped_bytes));
     } else {
-        must(beside_encoded(kind, a, b, 0, 0, modulus, none, 0, none, 0, nothing, 0, nothing, 0, words, words_length, 0, residues, n, &place, &skipped_words,
-                            &skipped_bytes));
+        must(beside_encoded(kind, a, b, 0, 0, modulus, none, 0, none, 0, nothing, 0, nothing, 0, words, words_length, 0, residues, n, &place, &index,
+                            &skipped_words, &skipped_bytes));
     }
     return now() - start;
 }
