@@ -32,12 +32,11 @@ pub(crate) fn fill(
     let ends = &bounds[1..last];
     let guide = make_guide(ends);
     let mut i: usize = 0;
-    let mut at = place;
     while i < n {
+        let at = place + 2 * i;
         let word = wide_word(words[at], words[at + 1]);
         let sampled = sample_magnitude(ends, &guide, word);
         output[i] = coefficient(encoding, sampled.positive, sampled.magnitude);
         i += 1;
-        at += 2;
     }
 }
