@@ -296,9 +296,6 @@ module _ (M : ℕ) (t : Layers) where
   layer-apart-23 =
       layer-numbers (λ n. n ≡ 23 → ⊥) (λ h e. omega arith) (λ e. omega arith) (λ h e. omega arith) (λ h e. omega arith) (λ h e. omega arith)
 
-  pub layer-below : layerNumber M t < 33
-  layer-below = layer-numbers (λ n. n < 33) (λ h. omega arith) (omega arith) (λ h. omega arith) (λ h. omega arith) (λ h. omega arith)
-
   -- a number below these names no index
   pub layer-unnamed : (k : ℕ) → k < 30 → layerIndex M t k ≡ 0
   unfolding layerIndex

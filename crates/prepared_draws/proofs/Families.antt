@@ -2,7 +2,7 @@
 use mathlib.Core.Path.{_≡_, refl, sym}
 use mathlib.Core.Bool.{Bool, true, false, cond}
 use mathlib.Core.List.{List}
-use Prim.Native.Nat.{ℕ, _<_, _≤_}
+use Prim.Native.Nat.{ℕ, _≤_}
 use native.Mathlib.Omega.{arith}
 use borrow.Author.Tests.{eq-eqb, ltb-false}
 use lib.Dec.{ltb}
@@ -20,7 +20,7 @@ use Rattle.distr.specs.Thresholds.{threshold}
 use Rattle.distr.specs.Distribution.{Distr, secret, error, Tables, onDeviation, errorRule, rule, coefficients}
 use Rattle.distr.specs.Making.{refuse, badDeviation, gaussianNumber, secretNumber, errorNumber, makingNumber, largest}
 use Rattle.distr.specs.Numbers.{firstOf, servesCrt, tableNumber, tableIndex}
-use Rattle.distr.specs.Draw.{Outcome, judged, ruleDraw, crtDraw}
+use Rattle.distr.specs.Draw.{judged, ruleDraw, crtDraw}
 use Rattle.centered_binomial.specs.Binomial.{parametersOf}
 use Rattle.centered_binomial.proofs.Made.{eta-small}
 use Rattle.ternary.specs.Sampler.{samplerOf}

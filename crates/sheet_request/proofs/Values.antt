@@ -1,19 +1,19 @@
 -- Residues in an output of signed numbers: the coefficients that are drawn there, each made its residue, are the values of the residues drawn.
 use mathlib.Core.Path.{_≡_, refl, sym, ap, _∙_}
-use mathlib.Core.Bool.{Bool, true, false, cond, _&&_}
+use mathlib.Core.Bool.{Bool, true, false, cond}
 use mathlib.Core.List.{List, [], _∷_, map}
 use Prim.Native.Nat.{ℕ, _-_, _^_, _<_}
 use native.Mathlib.Omega.{arith}
 use borrow.Author.Tests.{eqb-false, ne-eqb}
-use lib.Dec.{leb, ltb, eqb}
+use lib.Dec.{ltb, eqb}
 use lib.ListN.{length, drop, replicate, length-replicate}
 use lib.IntN.{ℤ, pos}
 use Rattle.distr.specs.declared.answer.Answer.{Answer}
 use Rattle.distr.specs.Words.{Read, got, short}
-use Rattle.distr.specs.Constants.{outputLimit, outputTooLong, modulusTooSmall, modulusZero, outOfWords}
+use Rattle.distr.specs.Constants.{outputLimit, outputTooLong, outOfWords}
 use Rattle.distr.specs.Encoding.{encode, encodeWith}
 use Rattle.distr.specs.Distribution.{Distr, coefficients, skipsOf}
-use Rattle.distr.specs.Making.{refuse, makingNumber}
+use Rattle.distr.specs.Making.{makingNumber}
 use Rattle.distr.specs.Numbers.{firstOf, pastEnd, tooLong, lengthNumber, tableNumber, tableIndex}
 use Rattle.distr.specs.Draw.{Outcome, outcome, settled, judged, naming, drawn, heldOver, noTables, encodedDraw}
 use Rattle.distr.proofs.Writing.{map-replicate, map-map}
@@ -23,10 +23,8 @@ use Rattle.draw_laws.proofs.Sampled.{distributionNumber}
 use Rattle.draw_laws.proofs.Writes.{encode-with}
 use Rattle.methods.specs.declared.PreparedMethod.{PreparedMethod}
 use Rattle.methods.specs.declared.SamplingMethod.{SamplingMethod}
-use Rattle.methods.specs.Method.{magnitudeOf, lengthOf}
-use Rattle.methods.specs.Keys.{isBinomial}
 use Rattle.method_draws.specs.Drawing.{preparedMethod, methodDraw, methodSkips}
-use Rattle.method_draws.proofs.Drawing.{prepared-draw, prepared-length, prepared-skips}
+use Rattle.method_draws.proofs.Drawing.{prepared-draw, prepared-skips}
 use Rattle.prepared_draws.specs.Drawing.{preparedDraw, residueNumbers, encodedBy}
 use Rattle.prepared_draws.proofs.Calls.{Answered, by-making}
 use Rattle.prepared_draws.proofs.Residues.{asked-below, asked-refuses, encoded-of}
