@@ -3,7 +3,7 @@
 ghost use Rattle.std.specs.Prelude.{◌≡◌};
 ghost use Rattle.distr.specs.Distribution.{secret, error};
 ghost use Rattle.method_draws.specs.Drawing.{preparing};
-ghost use Rattle.any_sampler.specs.Either.{preparingAny};
+ghost use Rattle.any_sampler.specs.Either.{preparing_any};
 
 use distr::error_distribution::ErrorDistribution;
 use distr::refusal::INVALID_SHEET;
@@ -49,7 +49,7 @@ fn make_error(distribution: ErrorDistribution) -> PreparedMethod
 impl AnyDistr {
     // The number of making its sampler, or 0 and the method that the sampler draws by; 14 where there is no distribution.
     pub fn prepare(self) -> PreparedMethod
-        ensures { result ≡ preparingAny self }
+        ensures { result ≡ preparing_any self }
     {
         match self {
             AnyDistr::Secret(distr) => make_secret(distr),

@@ -7,5 +7,5 @@ use Rattle.any_sampler.specs.declared.AnyDistr.TheVariants.{Unknown}
 use Rattle.beside.specs.Calls.{kinds, named}
 
 -- the kinds past the last name nothing
-pub past-the-last : (kind a b : ℕ) (p q : Float) → 13 < kind → Unknown ≡ named kind a b p q
-past-the-last kind a b p q h = sym (get_or-eq_default (kinds a b p q) Unknown {n = kind} h)
+pub past_the_last : (kind a b : ℕ) (p q : Float) → 13 < kind → Unknown ≡ named kind a b p q
+past_the_last kind a b p q h = sym (get_or-eq_default (kinds a b p q) Unknown {n = kind} h)

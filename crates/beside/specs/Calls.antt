@@ -5,7 +5,7 @@ use Rattle.distr.specs.declared.secret_key_distr.SecretKeyDistr.TheVariants.{Fix
 use Rattle.distr.specs.declared.secret_key_distr.SecretKeyDistr.TheVariants.{FixedCompositionTernary, Gaussian}
 use Rattle.distr.specs.declared.secret_key_distr.BlockOccupancy.TheVariants.{AtMostOne, ExactlyOne}
 use Rattle.distr.specs.declared.error_distribution.ErrorDistribution.TheVariants.{CenteredBinomial, Gaussian as ErrorGaussian}
-use Rattle.distr.specs.Constants.{etaLimit}
+use Rattle.distr.specs.Constants.{eta_limit}
 use Rattle.distr.specs.Skipped.{Skipped}
 use Rattle.distr.specs.Draw.{Outcome}
 use Rattle.stats.specs.declared.Report.{Report}
@@ -24,7 +24,7 @@ kinds a b p q =
     ∷ Secret (BlockBinary a ExactlyOne)
     ∷ Secret (FixedHammingWeightTernary a)
     ∷ Secret (FixedCompositionTernary a b)
-    ∷ Error (CenteredBinomial (cond (leb a etaLimit) a 33))
+    ∷ Error (CenteredBinomial (cond (leb a eta_limit) a 33))
     ∷ Secret (Binary p)
     ∷ Secret (Ternary p q)
     ∷ Secret (Gaussian p)
@@ -43,12 +43,12 @@ abbrev pub written : ℕ → ℕ → Skipped
 written words bytes = record { words = words; bytes = bytes }
 
 -- What a report writes: its number, its sign and the halves of its sums.
-abbrev pub reportOf : ℕ → Bool → ℕ → ℕ → ℕ → ℕ → Report
-reportOf number negative sumHigh sumLow squaresHigh squaresLow = record {
+abbrev pub report_of : ℕ → Bool → ℕ → ℕ → ℕ → ℕ → Report
+report_of number negative sum_high sum_low squares_high squares_low = record {
   number = number;
   negative = negative;
-  sum_high = sumHigh;
-  sum_low = sumLow;
-  squares_high = squaresHigh;
-  squares_low = squaresLow;
+  sum_high = sum_high;
+  sum_low = sum_low;
+  squares_high = squares_high;
+  squares_low = squares_low;
 }

@@ -2,9 +2,9 @@
 ghost use Rattle.std.specs.Prelude.{true, ◌≡◌, length, drop};
 ghost use Rattle.distr.specs.Distribution.{Distr};
 ghost use Rattle.distr.specs.Answers.{reported};
-ghost use Rattle.distr.specs.Draw.{crtDraw, crtSkips};
+ghost use Rattle.distr.specs.Draw.{crt_draw, crt_skips};
 ghost use Rattle.signed_discrete_gaussian.specs.Lent.{lent};
-ghost use Rattle.any_sampler.specs.Either.{anyAtOnce, anySkips};
+ghost use Rattle.any_sampler.specs.Either.{any_at_once, any_skips};
 ghost use Rattle.beside.specs.Calls.{answered, named, written};
 
 use crate::kind::by_kind;
@@ -32,10 +32,10 @@ pub extern "C" fn beside_crt(
     skipped_words: &mut u64,
     skipped_bytes: &mut u64,
 ) -> u32
-    ensures output_after { answered result new_place.new index.new output.new ≡ anyAtOnce (named kind a b p q) place output.old (λ (d : Distr). crtDraw true d
+    ensures output_after { answered result new_place.new index.new output.new ≡ any_at_once (named kind a b p q) place output.old (λ (d : Distr). crt_draw true d
         (lent bounds.now endpoints.now heights.now curve.now)
         coefficient_count moduli.now words.now place output.old) }
-    ensures skipped_bytes_after { written skipped_words.new skipped_bytes.new ≡ reported result (anySkips (named kind a b p q) (λ (d : Distr). crtSkips d coefficient_count (lent bounds.now endpoints.now heights.now curve.now) (length output.old) (drop place words.now))) }
+    ensures skipped_bytes_after { written skipped_words.new skipped_bytes.new ≡ reported result (any_skips (named kind a b p q) (λ (d : Distr). crt_skips d coefficient_count (lent bounds.now endpoints.now heights.now curve.now) (length output.old) (drop place words.now))) }
 {
     let answer = sample_crt_to(
         output,

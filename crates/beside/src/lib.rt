@@ -14,7 +14,7 @@ mod report;
 mod signed;
 
 ghost use Rattle.std.specs.Prelude.{◌≡◌};
-ghost use Rattle.any_sampler.specs.Either.{preparingAny};
+ghost use Rattle.any_sampler.specs.Either.{preparing_any};
 ghost use Rattle.beside.specs.Calls.{named};
 
 pub use crt::beside_crt;
@@ -26,7 +26,7 @@ pub use signed::beside_signed;
 // The number of making a sampler of a kind; 14 where the kind names no distribution.
 #[unsafe(no_mangle)]
 pub extern "C" fn beside_make(kind: u32, a: usize, b: usize, p: f64, q: f64) -> u32
-    ensures { result ≡ (preparingAny (named kind a b p q)).number }
+    ensures { result ≡ (preparing_any (named kind a b p q)).number }
 {
     kind::by_kind(kind, a, b, p, q).prepare().number
 }

@@ -1,7 +1,7 @@
 // The call that reports over residues (02 [2]).
 ghost use Rattle.std.specs.Prelude.{◌≡◌};
 ghost use Rattle.stats.specs.Report.{report};
-ghost use Rattle.beside.specs.Calls.{reportOf};
+ghost use Rattle.beside.specs.Calls.{report_of};
 
 use stats::residue_report;
 
@@ -19,7 +19,7 @@ pub extern "C" fn beside_report(
     squares_low: &mut u64,
 ) -> u32
     ensures { (
-      reportOf result negative.new sum_high.new sum_low.new
+      report_of result negative.new sum_high.new sum_low.new
           squares_high.new squares_low.new,
       counts.new,
     )

@@ -1,10 +1,10 @@
 // The call that draws signed coefficients.
 ghost use Rattle.std.specs.Prelude.{true, ◌≡◌, length, drop};
 ghost use Rattle.distr.specs.Answers.{reported};
-ghost use Rattle.distr.specs.Distribution.{Distr, skipsOf};
-ghost use Rattle.distr.specs.Draw.{signedDraw};
+ghost use Rattle.distr.specs.Distribution.{Distr, skips_of};
+ghost use Rattle.distr.specs.Draw.{signed_draw};
 ghost use Rattle.signed_discrete_gaussian.specs.Lent.{lent};
-ghost use Rattle.any_sampler.specs.Either.{anyAtOnce, anySkips};
+ghost use Rattle.any_sampler.specs.Either.{any_at_once, any_skips};
 ghost use Rattle.beside.specs.Calls.{answered, named, written};
 
 use crate::kind::by_kind;
@@ -30,10 +30,10 @@ pub extern "C" fn beside_signed(
     skipped_words: &mut u64,
     skipped_bytes: &mut u64,
 ) -> u32
-    ensures output_after { answered result new_place.new index.new output.new ≡ anyAtOnce (named kind a b p q) place output.old (λ (d : Distr). signedDraw true d
+    ensures output_after { answered result new_place.new index.new output.new ≡ any_at_once (named kind a b p q) place output.old (λ (d : Distr). signed_draw true d
         (lent bounds.now endpoints.now heights.now curve.now)
         words.now place output.old) }
-    ensures skipped_bytes_after { written skipped_words.new skipped_bytes.new ≡ reported result (anySkips (named kind a b p q) (λ (d : Distr). skipsOf d (length output.old) (lent bounds.now endpoints.now heights.now curve.now) (drop place words.now))) }
+    ensures skipped_bytes_after { written skipped_words.new skipped_bytes.new ≡ reported result (any_skips (named kind a b p q) (λ (d : Distr). skips_of d (length output.old) (lent bounds.now endpoints.now heights.now curve.now) (drop place words.now))) }
 {
     let by = by_kind(kind, a, b, p, q).prepare();
     let answer = sample_signed_to(output, by, bounds, endpoints, heights, curve, words, place);

@@ -7,14 +7,14 @@ use borrow.Author.Tests.{ltb-true, ltb-false}
 use lib.Bits.{bit_and, and_mask, and_zero_r}
 use lib.Dec.{ltb}
 use mir.Val.{bool_byte}
-use Rattle.binary.specs.Below.{oneBelow, end_of}
+use Rattle.binary.specs.Below.{one_below, end_of}
 
 -- an end with its own last bit
 pub even-end : (below : ℕ) → below % 2 ≡ 0 → end_of below false ≡ below
 even-end below e = omega arith
 
-pub odd-end : (below : ℕ) → (below % 2 ≡ 0 → ⊥) → end_of below true ≡ below
-odd-end below e = omega arith
+pub odd_end : (below : ℕ) → (below % 2 ≡ 0 → ⊥) → end_of below true ≡ below
+odd_end below e = omega arith
 
 -- the half of a word, and what it is taken from
 abbrev half : Bool → ℕ → ℕ
@@ -40,9 +40,9 @@ module _ (w : ℕ) (small : w < 2 ^ 64) where
   half-within below odd = omega (arith, half-most odd)
 
   -- the bound leaves 2^63 or more where the word is below the end
-  pub half-tells : (below : ℕ) (odd : Bool) → below < 2 ^ 64 → (bound below odd - half odd w) / 2 ^ 63 ≡ oneBelow (end_of below odd) w
-  unfolding oneBelow
-  half-tells below odd h = go odd (ltb w (end_of below odd)) refl
+  pub half_tells : (below : ℕ) (odd : Bool) → below < 2 ^ 64 → (bound below odd - half odd w) / 2 ^ 63 ≡ one_below (end_of below odd) w
+  unfolding one_below
+  half_tells below odd h = go odd (ltb w (end_of below odd)) refl
     where
       go : (odd t : Bool) → ltb w (end_of below odd) ≡ t → (bound below odd - half odd w) / 2 ^ 63 ≡ bool_byte t
       go true true e = let l : w < end_of below true = ltb-true w (end_of below true) e in omega (arith, and_mask w 1)

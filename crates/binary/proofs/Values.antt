@@ -10,18 +10,18 @@ use mir.Val.{bool_byte}
 use borrow.Author.Tests.{ne_eqb}
 use Rattle.distr.specs.declared.threshold.Threshold.{Threshold}
 use Rattle.distr.specs.Skipped.{nothing}
-use Rattle.distr.specs.Rule.{constant, wideWords}
-use Rattle.distr.specs.Thresholds.{binaryValue, binary}
-use Rattle.words.specs.Reading.{thresholdValue}
-use Rattle.numbers.specs.Answering.{wideRule, wideRead}
-use Rattle.binary.specs.Below.{oneBelow}
+use Rattle.distr.specs.Rule.{constant, wide_words}
+use Rattle.distr.specs.Thresholds.{binary_value, binary}
+use Rattle.words.specs.Reading.{threshold_value}
+use Rattle.numbers.specs.Answering.{wide_rule, wide_read}
+use Rattle.binary.specs.Below.{one_below}
 
 -- one threshold: the rule, and the value of a word
 pub binary-rule : (t : Threshold) (n : ℕ) → t.below < 2 ^ 64
-    → binary (thresholdValue t) n ≡ wideRule (not t.full) (pos 1) (binaryValue t.below) n
+    → binary (threshold_value t) n ≡ wide_rule (not t.full) (pos 1) (binary_value t.below) n
 binary-rule t n h = go t.full refl
   where
-    go : (full : Bool) → t.full ≡ full → binary (thresholdValue t) n ≡ wideRule (not full) (pos 1) (binaryValue t.below) n
+    go : (full : Bool) → t.full ≡ full → binary (threshold_value t) n ≡ wide_rule (not full) (pos 1) (binary_value t.below) n
     go true e = rw e
     go false e = rw (e, ne_eqb t.below (2 ^ 64) (λ q. omega arith))
 
@@ -29,12 +29,12 @@ binary-rule t n h = go t.full refl
 pub binary-skips : (t n : ℕ) (ws : List ℕ) → (binary t n).skips ws ≡ nothing
 binary-skips t n ws = go (eqb t (2 ^ 64))
   where
-    go : (full : Bool) → (cond full (constant (pos 1) n) (wideWords n (binaryValue t))).skips ws ≡ nothing
+    go : (full : Bool) → (cond full (constant (pos 1) n) (wide_words n (binary_value t))).skips ws ≡ nothing
     go true = refl
     go false = refl
 
-pub one-signed : (t w : ℕ) → pos (oneBelow t w) ≡ binaryValue t w
-unfolding oneBelow
+pub one-signed : (t w : ℕ) → pos (one_below t w) ≡ binary_value t w
+unfolding one_below
 one-signed t w = go (ltb w t)
   where
     go : (b : Bool) → pos (bool_byte b) ≡ cond b (pos 1) (pos 0)
@@ -43,11 +43,11 @@ one-signed t w = go (ltb w t)
 
 -- ones and zeros as an output holds them, by f
 pub below-held : {A : Type 0} (f : ℤ → A) (t n : ℕ) (words : List ℕ)
-    → wideRead (λ w. f (binaryValue t w)) n words ≡ wideRead (λ w. f (pos (oneBelow t w))) n words
-below-held {A} f t n words = ap (λ (v : ℕ → A). wideRead v n words) (fun_ext (λ w. ap f (sym (one-signed t w))))
+    → wide_read (λ w. f (binary_value t w)) n words ≡ wide_read (λ w. f (pos (one_below t w))) n words
+below-held {A} f t n words = ap (λ (v : ℕ → A). wide_read v n words) (fun_ext (λ w. ap f (sym (one-signed t w))))
 
-pub one-small : (t w : ℕ) → oneBelow t w < 2
-unfolding oneBelow
+pub one-small : (t w : ℕ) → one_below t w < 2
+unfolding one_below
 one-small t w = go (ltb w t)
   where
     go : (b : Bool) → bool_byte b < 2

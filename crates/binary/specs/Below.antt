@@ -3,8 +3,8 @@ use Rattle.std.specs.Prelude.{ℕ, ◌+◌, ◌*◌, ◌/◌, Bool, ltb}
 use mir.Val.{bool_byte}
 
 -- 1 for a word below an end, else 0.
-unfoldable pub oneBelow : ℕ → ℕ → ℕ
-oneBelow end w = bool_byte (ltb w end)
+unfoldable pub one_below : ℕ → ℕ → ℕ
+one_below end w = bool_byte (ltb w end)
 
 -- An end with its last bit given apart.
 abbrev pub end_of : ℕ → Bool → ℕ

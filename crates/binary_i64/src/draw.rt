@@ -1,9 +1,9 @@
 // `Binary`: ones and zeros by one threshold of 64-bit words.
 ghost use Rattle.std.specs.Prelude.{◌≡◌, length, drop};
-ghost use Rattle.distr.specs.Draw.{outcome, ruleDraw};
+ghost use Rattle.distr.specs.Draw.{outcome, rule_draw};
 ghost use Rattle.distr.specs.Thresholds.{binary};
 ghost use Rattle.distr.specs.Answers.{sums, reported};
-ghost use Rattle.words.specs.Reading.{thresholdValue};
+ghost use Rattle.words.specs.Reading.{threshold_value};
 ghost use Rattle.output_i64.specs.Out.{held};
 
 use crate::{Encoding, Out, below, clear, fill};
@@ -21,8 +21,8 @@ pub fn fill_binary(
     place: usize,
 ) -> Answer
     ensures output_after { outcome result output.new ≡
-        ruleDraw (held encoding) 0 (binary (thresholdValue threshold) (length output.old)) words.now place output.old }
-    ensures result_value { sums result ≡ reported result.number ((binary (thresholdValue threshold) (length output.old)).skips (drop place words.now)) }
+        rule_draw (held encoding) 0 (binary (threshold_value threshold) (length output.old)) words.now place output.old }
+    ensures result_value { sums result ≡ reported result.number ((binary (threshold_value threshold) (length output.old)).skips (drop place words.now)) }
 {
     let answer = wide_words::answer_of(0, !threshold.full, words.len(), place, output.len());
     if answer.number == OUT_OF_WORDS {

@@ -1,10 +1,10 @@
 // The loop of ones and zeros over 64-bit words by one end.
 ghost use Rattle.std.specs.Prelude.{◌≡◌, ◌+◌, ◌*◌, ◌≤◌, length, drop};
 ghost use Rattle.distr.specs.Words.{got};
-ghost use Rattle.distr.specs.Thresholds.{binaryValue};
-ghost use Rattle.numbers.specs.Answering.{wideRead};
+ghost use Rattle.distr.specs.Thresholds.{binary_value};
+ghost use Rattle.numbers.specs.Answering.{wide_read};
 ghost use Rattle.binary.specs.Below.{end_of};
-ghost use Rattle.output_u64.specs.Out.{heldOne};
+ghost use Rattle.output_u64.specs.Out.{held_one};
 
 use crate::{Encoding, Out};
 use binary::below::one_below;
@@ -20,7 +20,7 @@ fn fill_by(
     place: usize,
 )
     requires { place + 2 * length output.old ≤ length words.now }
-    ensures { wideRead (λ w. heldOne encoding (binaryValue (end_of below odd) w)) (length output.old) (drop place words.now)
+    ensures { wide_read (λ w. held_one encoding (binary_value (end_of below odd) w)) (length output.old) (drop place words.now)
         ≡ got output.new (drop (place + 2 * length output.old) words.now) }
 {
     let n = output.len();
@@ -38,7 +38,7 @@ fn fill_by(
 // half of a word tells, and its last bit is not looked at.
 pub(crate) fn fill(output: &mut [Out], encoding: Encoding, below: u64, words: &[u32], place: usize)
     requires { place + 2 * length output.old ≤ length words.now }
-    ensures { wideRead (λ w. heldOne encoding (binaryValue below w)) (length output.old) (drop place words.now) ≡
+    ensures { wide_read (λ w. held_one encoding (binary_value below w)) (length output.old) (drop place words.now) ≡
         got output.new (drop (place + 2 * length output.old) words.now) }
 {
     if below % 2 == 0 {

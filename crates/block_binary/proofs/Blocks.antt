@@ -14,19 +14,19 @@ use lib.Dec.{T, leb, ltb, lt→ltb, le→leb}
 use lib.ListN.{length, get_or, take, drop, set, replicate, length-append, length-set, length-replicate, length-drop}
 use lib.Seq.{length-take-le, take_at, take_all, set_out}
 use lib.IntN.{ℤ, pos}
-use Rattle.distr.specs.Words.{Read, got, short, mapRead, bindRead, choose, chooseEach}
-use Rattle.distr.specs.Skipped.{passedEach}
-use Rattle.distr.specs.Blocks.{block, blocksOf}
+use Rattle.distr.specs.Words.{Read, got, short, map_read, bind_read, choose, choose_each}
+use Rattle.distr.specs.Skipped.{passed_each}
+use Rattle.distr.specs.Blocks.{block, blocks_of}
 use Rattle.distr.specs.Draw.{settled}
-use Rattle.distr.proofs.Reading.{map-got, map-read-twice, map-read-same, choose-accept, choose-skip, choose-end}
+use Rattle.distr.proofs.Reading.{map-got, map_read_twice, map_read_same, choose_accept, choose_skip, choose-end}
 use Rattle.distr.proofs.Skipping.{each_counts}
 use Rattle.distr.proofs.Drawing.{settled-got, settled-short}
-use Rattle.distr.proofs.Writing.{map-append, map-replicate, map-set}
-use Rattle.words.proofs.Runs.{run-accepted, run-skipped}
+use Rattle.distr.proofs.Writing.{map_append, map-replicate, map-set}
+use Rattle.words.proofs.Runs.{run_accepted, run_skipped}
 
 -- a position by its test: itself inside of n places, else the first
-pub position-room : (n i : ℕ) → 0 < n → i * bool_byte (ltb i n) < n
-position-room n i h = go (ltb i n) refl
+pub position_room : (n i : ℕ) → 0 < n → i * bool_byte (ltb i n) < n
+position_room n i h = go (ltb i n) refl
   where
     go : (b : Bool) → ltb i n ≡ b → i * bool_byte b < n
     go true e = omega (arith, ltb-true i n e)
@@ -37,10 +37,10 @@ byte_fits true = record { sfits = omega arith }
 byte_fits false = record { sfits = omega arith }
 
 -- what is written there, o inside and z else, leaves zeros with an o at the position, or zeros alone
-pub position-put : {A : Type 0} (value : ℕ → A) (n i : ℕ) → 0 < n
+pub position_put : {A : Type 0} (value : ℕ → A) (n i : ℕ) → 0 < n
     → set (replicate n (value 0)) (i * bool_byte (ltb i n)) (value (bool_byte (ltb i n))) ≡ set (replicate n (value 0)) i (value 1)
-position-put value zero i h = absurd (omega arith)
-position-put value (suc n) i h = go (ltb i (suc n)) refl
+position_put value zero i h = absurd (omega arith)
+position_put value (suc n) i h = go (ltb i (suc n)) refl
   where
     go : (b : Bool) → ltb i (suc n) ≡ b
         → set (replicate (suc n) (value 0)) (i * bool_byte b) (value (bool_byte b)) ≡ set (replicate (suc n) (value 0)) i (value 1)
@@ -50,8 +50,8 @@ position-put value (suc n) i h = go (ltb i (suc n)) refl
         ∙ sym (set_out (replicate (suc n) (value 0)) i (value 1) (omega (arith, ltb-false i (suc n) e, length-replicate (suc n) (value 0))))
 
 -- no whole 65537 in a size that an output has room for
-pub small-none : (size : ℕ) → size ≤ 65536 → size / 65537 ≡ 0
-small-none size h = omega arith
+pub small_none : (size : ℕ) → size ≤ 65536 → size / 65537 ≡ 0
+small_none size h = omega arith
 
 -- what stands up to the end of a part that was filled
 front : {A : Type 0} (start size : ℕ) (out ys : List A) → start ≤ length out → length ys ≡ size
@@ -63,13 +63,13 @@ front {A} start size out ys h l =
 
 -- the next choice, and then the others
 choose-next : (k m s : ℕ) (ws rest : List ℕ) → choose k ws ≡ got s rest
-    → chooseEach (replicate (suc m) k) ws ≡ mapRead (λ ss. s ∷ ss) (chooseEach (replicate m k) rest)
-unfolding chooseEach bindRead
+    → choose_each (replicate (suc m) k) ws ≡ map_read (λ ss. s ∷ ss) (choose_each (replicate m k) rest)
+unfolding choose_each bind_read
 choose-next k m s ws rest e = rw e
 
-choose-none : (k m : ℕ) (ws : List ℕ) → choose k ws ≡ short → chooseEach (replicate (suc m) k) ws ≡ short
-unfolding chooseEach bindRead
-choose-none k m ws e = rw e
+choose_none : (k m : ℕ) (ws : List ℕ) → choose k ws ≡ short → choose_each (replicate (suc m) k) ws ≡ short
+unfolding choose_each bind_read
+choose_none k m ws e = rw e
 
 -- how an output holds coefficients: each by itself, 0 as z and 1 as o
 pub record Holds {A : Type 0} (write : List ℤ → List A) (z o : A) : Type 0 where
@@ -87,45 +87,45 @@ mapped {A} f = record {
   none = refl;
   zeros = λ n. map-replicate f n (pos 0);
   one_block = λ size s. map-set f (replicate size (pos 0)) s (pos 1) ∙ ap (λ (t : List A). set t s (f (pos 1))) (map-replicate f size (pos 0));
-  joined = map-append f;
+  joined = map_append f;
 }
 
 -- what is read from the words left where m blocks are still to fill and xs stands before them
 abbrev onwards : {A : Type 0} → (List ℤ → List A) → ℕ → ℕ → List A → ℕ → List ℕ → Read (List A)
-onwards write size k xs m ws = mapRead (λ ss. xs ++ write (blocksOf size ss)) (chooseEach (replicate m k) ws)
+onwards write size k xs m ws = map_read (λ ss. xs ++ write (blocks_of size ss)) (choose_each (replicate m k) ws)
 
 -- the rule's reading of an output of n coefficients in blocks of a size, each by a choice among k
 abbrev pub wanted : ℕ → ℕ → ℕ → List ℕ → Read (List ℤ)
-wanted size k n ws = mapRead (blocksOf size) (chooseEach (replicate (n / size) k) ws)
+wanted size k n ws = map_read (blocks_of size) (choose_each (replicate (n / size) k) ws)
 
 -- words of which the next choice is the same are read alike
-choose-same : (k m : ℕ) (ws rest : List ℕ) → choose k ws ≡ choose k rest → chooseEach (replicate (suc m) k) ws ≡ chooseEach (replicate (suc m) k) rest
-unfolding chooseEach
+choose-same : (k m : ℕ) (ws rest : List ℕ) → choose k ws ≡ choose k rest → choose_each (replicate (suc m) k) ws ≡ choose_each (replicate (suc m) k) rest
+unfolding choose_each
 choose-same k m ws rest e = rw e
 
 onwards-same : {A : Type 0} (write : List ℤ → List A) (size k : ℕ) (xs : List A) (m : ℕ) (ws rest : List ℕ) → choose k ws ≡ choose k rest
     → onwards write size k xs (suc m) ws ≡ onwards write size k xs (suc m) rest
-onwards-same write size k xs m ws rest e = ap (mapRead (λ (ss : List ℕ). xs ++ write (blocksOf size ss))) (choose-same k m ws rest e)
+onwards-same write size k xs m ws rest e = ap (map_read (λ (ss : List ℕ). xs ++ write (blocks_of size ss))) (choose-same k m ws rest e)
 
 module _ {A : Type 0} (write : List ℤ → List A) {z o : A} (holds : Holds write z o) (size k : ℕ) (xs : List A) (ws : List ℕ) where
   -- none is left to fill; a word is missing; a choice fills one
   onwards-end : onwards write size k xs 0 ws ≡ got xs ws
-  unfolding mapRead chooseEach blocksOf
+  unfolding map_read choose_each blocks_of
   onwards-end = ap (λ (l : List A). got l ws) (ap (λ (l : List A). xs ++ l) holds.none ∙ append-nil xs)
 
   onwards-short : (m : ℕ) → choose k ws ≡ short → onwards write size k xs (suc m) ws ≡ short
-  unfolding mapRead
-  onwards-short m e = rw (choose-none k m ws e)
+  unfolding map_read
+  onwards-short m e = rw (choose_none k m ws e)
 
   onwards-next : (m s : ℕ) (rest : List ℕ) → choose k ws ≡ got s rest
       → onwards write size k xs (suc m) ws ≡ onwards write size k (xs ++ write (block size s)) m rest
-  unfolding blocksOf
+  unfolding blocks_of
   onwards-next m s rest e =
-      let others = chooseEach (replicate m k) rest in
-      ap (mapRead (λ (ss : List ℕ). xs ++ write (blocksOf size ss))) (choose-next k m s ws rest e)
-      ∙ map-read-twice (λ (ss : List ℕ). xs ++ write (blocksOf size ss)) (λ (ss : List ℕ). s ∷ ss) others
-      ∙ map-read-same _ _ (λ ss. ap (λ (l : List A). xs ++ l) (holds.joined (block size s) (blocksOf size ss))
-      ∙ sym (append_assoc xs (write (block size s)) (write (blocksOf size ss)))) others
+      let others = choose_each (replicate m k) rest in
+      ap (map_read (λ (ss : List ℕ). xs ++ write (blocks_of size ss))) (choose-next k m s ws rest e)
+      ∙ map_read_twice (λ (ss : List ℕ). xs ++ write (blocks_of size ss)) (λ (ss : List ℕ). s ∷ ss) others
+      ∙ map_read_same _ _ (λ ss. ap (λ (l : List A). xs ++ l) (holds.joined (block size s) (blocks_of size ss))
+      ∙ sym (append_assoc xs (write (block size s)) (write (blocks_of size ss)))) others
 
 module _ {A : Type 0} (write : List ℤ → List A) (ws : List ℕ) (size k n : ℕ) where
   -- the blocks before `start` are filled, `left` blocks follow, and the words are read up to `at`
@@ -134,7 +134,7 @@ module _ {A : Type 0} (write : List ℤ → List A) (ws : List ℕ) (size k n : 
     pub whole : start + left * size ≡ n
     pub kept : length out ≡ n
     pub within : at ≤ length ws
-    pub reading : onwards write size k (take start out) left (drop at ws) ≡ mapRead write (wanted size k n ws)
+    pub reading : onwards write size k (take start out) left (drop at ws) ≡ map_read write (wanted size k n ws)
 
   pub turn-start : (out : List A) → n % size ≡ 0 → length out ≡ n → Turn 0 0 out
   turn-start out d l = record {
@@ -142,7 +142,7 @@ module _ {A : Type 0} (write : List ℤ → List A) (ws : List ℕ) (size k n : 
     whole = omega (arith, div-add-mod' n size);
     kept = l;
     within = omega arith;
-    reading = sym (map-read-twice write (blocksOf size) (chooseEach (replicate (n / size) k) ws));
+    reading = sym (map_read_twice write (blocks_of size) (choose_each (replicate (n / size) k) ws));
   }
 
 module _ {A : Type 0} {write : List ℤ → List A} {z o : A} (holds : Holds write z o) {ws : List ℕ} {size k n start at : ℕ} {out : List A}
@@ -176,7 +176,7 @@ module _ {A : Type 0} {write : List ℤ → List A} {z o : A} (holds : Holds wri
     rest left = onwards write size k (take start out) (suc (some_left h).0) left
 
     -- what is read where a block is left
-    reads : rest (drop at ws) ≡ mapRead write (wanted size k n ws)
+    reads : rest (drop at ws) ≡ map_read write (wanted size k n ws)
     reads = ap (λ (j : ℕ). onwards write size k (take start out) j (drop at ws)) (sym (some_left h).1) ∙ t.reading
 
     module _ (p : 0 < k) (q : k ≤ 2 ^ 32) (there : at < length ws) where
@@ -190,7 +190,7 @@ module _ {A : Type 0} {write : List ℤ → List A} {z o : A} (holds : Holds wri
       turn_more {ys} e f l =
           let m = some_left h in
           let s : ℕ = word % k in
-          let below : T (ltb word (k * (2 ^ 32 / k))) = lt→ltb word _ (run-accepted (2 ^ 32) k word p q (omega (arith, mod-le word k))) in
+          let below : T (ltb word (k * (2 ^ 32 / k))) = lt→ltb word _ (run_accepted (2 ^ 32) k word p q (omega (arith, mod-le word k))) in
           let fill : ys ≡ set (replicate size z) s o = f ∙ ap (λ (j : ℕ). set (replicate j z) s o) (turn-size h) in
           let size-fill : length ys ≡ size = ap length fill ∙ simp (length-set, length-replicate) in
           record {
@@ -201,21 +201,21 @@ module _ {A : Type 0} {write : List ℤ → List A} {z o : A} (holds : Holds wri
             reading = ap (λ (xs : List A). onwards write size k xs m.0 (drop (suc at) ws))
                 (front start size out ys (omega (arith, turn-room h)) size-fill
                 ∙ ap (λ (l : List A). take start out ++ l) (fill ∙ sym (holds.one_block size s)))
-                ∙ sym (onwards-next write holds size k (take start out) (drop at ws) m.0 s (drop (suc at) ws) (choose-accept k at ws there below))
+                ∙ sym (onwards-next write holds size k (take start out) (drop at ws) m.0 s (drop (suc at) ws) (choose_accept k at ws there below))
                 ∙ reads;
           }
 
       -- another is passed over
       pub turn-passed : 2 ^ 32 < word - word % k + k → Turn write ws size k n start (suc at) out
       turn-passed e =
-          let above : T (leb (k * (2 ^ 32 / k)) word) = le→leb _ word (run-skipped (2 ^ 32) k word p q (omega (arith, mod-le word k))) in
+          let above : T (leb (k * (2 ^ 32 / k)) word) = le→leb _ word (run_skipped (2 ^ 32) k word p q (omega (arith, mod-le word k))) in
           record {
             left = t.left;
             whole = t.whole;
             kept = t.kept;
             within = there;
             reading = ap (λ (j : ℕ). onwards write size k (take start out) j (drop (suc at) ws)) (some_left h).1
-                ∙ onwards-same write size k (take start out) (some_left h).0 (drop (suc at) ws) (drop at ws) (sym (choose-skip k at ws there above)) ∙ reads;
+                ∙ onwards-same write size k (take start out) (some_left h).0 (drop (suc at) ws) (drop at ws) (sym (choose_skip k at ws there above)) ∙ reads;
           }
 
     -- a word is missing, and the output was cleared
@@ -223,13 +223,13 @@ module _ {A : Type 0} {write : List ℤ → List A} {z o : A} (holds : Holds wri
         → record { number = 23; place = place; index = 0; output = out' } ≡ settled write (length words) place n (wanted size k n (drop place words))
     turn-short words place {out'} e same c =
         settled-short write (length words) place n out' (wanted size k n (drop place words))
-        (ap (λ (l : List ℕ). mapRead write (wanted size k n l)) (sym same) ∙ sym reads
+        (ap (λ (l : List ℕ). map_read write (wanted size k n l)) (sym same) ∙ sym reads
         ∙ onwards-short write holds size k (take start out) (drop at ws) (some_left h).0 (choose-end k at ws e))
         (c ∙ ap (λ (j : ℕ). replicate j z) t.kept ∙ sym (holds.zeros n))
 
   -- every block is filled
   module _ (p : 0 < size) (h : n ≤ start) where
-    filled : mapRead write (wanted size k n ws) ≡ got out (drop at ws)
+    filled : map_read write (wanted size k n ws) ≡ got out (drop at ws)
     filled =
         sym t.reading ∙ ap (λ (j : ℕ). onwards write size k (take start out) j (drop at ws)) (none_left p h)
         ∙ onwards-end write holds size k (take start out) (drop at ws)
@@ -240,13 +240,13 @@ module _ {A : Type 0} {write : List ℤ → List A} {z o : A} (holds : Holds wri
     turn_end words place w same =
         settled-got write (length words) place n out (wanted size k n (drop place words)) (drop at ws)
         (omega (arith, t.within, length-drop at ws, ap length same, length-drop place words))
-        (ap (λ (l : List ℕ). mapRead write (wanted size k n l)) (sym same) ∙ filled)
+        (ap (λ (l : List ℕ). map_read write (wanted size k n l)) (sym same) ∙ filled)
 
     -- a word was taken for each block, and those that were passed over
-    pub turn-counts : at ≡ n / size + passedEach (replicate (n / size) k) ws
-    turn-counts =
+    pub turn_counts : at ≡ n / size + passed_each (replicate (n / size) k) ws
+    turn_counts =
         let ks : List ℕ = replicate (n / size) k in
         let blocks = map-got write (wanted size k n ws) out (drop at ws) filled in
-        let choices = map-got (blocksOf size) (chooseEach ks ws) blocks.0 (drop at ws) blocks.1 in
+        let choices = map-got (blocks_of size) (choose_each ks ws) blocks.0 (drop at ws) blocks.1 in
         let all = each_counts ks ws choices.0 (drop at ws) choices.1 in
         omega (arith, t.within, length-replicate (n / size) k, length-drop at ws)

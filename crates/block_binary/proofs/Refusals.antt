@@ -12,21 +12,21 @@ use lib.IntN.{ℤ}
 use Rattle.distr.specs.declared.secret_key_distr.BlockOccupancy.{BlockOccupancy}
 use Rattle.distr.specs.declared.answer.Answer.{Answer}
 use Rattle.distr.specs.Answers.{sums, reported}
-use Rattle.distr.specs.Skipped.{skippedWords, passedEach}
-use Rattle.distr.specs.Blocks.{categories, blockBinary}
-use Rattle.distr.specs.Constants.{outputLimit}
-use Rattle.distr.specs.Numbers.{badBlocks}
-use Rattle.distr.specs.Draw.{Outcome, settled, ruleDraw}
-use Rattle.distr.proofs.Reading.{or-false}
+use Rattle.distr.specs.Skipped.{skipped_words, passed_each}
+use Rattle.distr.specs.Blocks.{categories, block_binary}
+use Rattle.distr.specs.Constants.{output_limit}
+use Rattle.distr.specs.Numbers.{bad_blocks}
+use Rattle.distr.specs.Draw.{Outcome, settled, rule_draw}
+use Rattle.distr.proofs.Reading.{or_false}
 use Rattle.distr.proofs.Drawing.{not-refused}
-use Rattle.numbers.proofs.Refusing.{drawNumber, number_by, number_passed, rule-refused, rule-passed}
+use Rattle.numbers.proofs.Refusing.{draw_number, number_by, number_passed, rule-refused, rule-passed}
 use Rattle.block_binary.proofs.Blocks.{wanted}
 
 pub record Accepted (count place n size : ℕ) : Type 0 where
   pub within : place ≤ count
   pub some : 0 < size
   pub whole : n % size ≡ 0
-  pub small : size ≤ outputLimit
+  pub small : size ≤ output_limit
 
 -- a divisor of a number that is not 0
 divides : (size n : ℕ) → (n ≡ 0 → ⊥) → n % size ≡ 0 → (0 < size) × (size ≤ n)
@@ -38,25 +38,25 @@ divides (suc p) n ne e = (omega arith, go (n / suc p) (omega (arith, div-add-mod
     go (suc q) f = omega arith
 
 -- the draw's own number is that of its blocks
-accepted : (count place n size : ℕ) {k : ℕ} → k ≡ drawNumber count place n (badBlocks size n) → k ≡ 0 → Accepted count place n size
+accepted : (count place n size : ℕ) {k : ℕ} → k ≡ draw_number count place n (bad_blocks size n) → k ≡ 0 → Accepted count place n size
 accepted count place n size number z =
-    let good = number_passed count place n (badBlocks size n) number z in
-    let d = or-false (eqb n 0) (not (eqb (n % size) 0)) (not-refused _ 7 good.2) in
+    let good = number_passed count place n (bad_blocks size n) number z in
+    let d = or_false (eqb n 0) (not (eqb (n % size) 0)) (not-refused _ 7 good.2) in
     let whole = eqb-true (n % size) 0 (not-false (eqb (n % size) 0) d.1) in
     let size-good = divides size n (eqb-false n 0 d.0) whole in
     record { within = good.0; some = size-good.0; whole = whole; small = omega (arith, size-good.1, good.1) }
 
 -- k is the first number that refuses the draw, by its own number j
 module _ {A : Type 0} (write : List ℤ → List A) (words : List ℕ) (place size : ℕ) (occupancy : BlockOccupancy) (out : List A) {j k : ℕ}
-    (own : j ≡ badBlocks size (length out)) (told : k ≡ drawNumber (length words) place (length out) j) where
+    (own : j ≡ bad_blocks size (length out)) (told : k ≡ draw_number (length words) place (length out) j) where
   abbrev promised : Outcome A
-  promised = ruleDraw write (badBlocks size (length out)) (blockBinary size occupancy (length out)) words place out
+  promised = rule_draw write (bad_blocks size (length out)) (block_binary size occupancy (length out)) words place out
 
-  number : k ≡ drawNumber (length words) place (length out) (badBlocks size (length out))
-  number = number_by (length words) place (length out) j (badBlocks size (length out)) own told
+  number : k ≡ draw_number (length words) place (length out) (bad_blocks size (length out))
+  number = number_by (length words) place (length out) j (bad_blocks size (length out)) own told
 
   pub refused : (k ≡ 0 → ⊥) → record { number = k; place = place; index = 0; output = out } ≡ promised
-  refused = rule-refused write (badBlocks size (length out)) words place out number (blockBinary size occupancy (length out))
+  refused = rule-refused write (bad_blocks size (length out)) words place out number (block_binary size occupancy (length out))
 
   pub ready : k ≡ 0 → Accepted (length words) place (length out) size
   ready = accepted (length words) place (length out) size number
@@ -64,10 +64,10 @@ module _ {A : Type 0} (write : List ℤ → List A) (words : List ℕ) (place si
   -- what the blocks give is the draw, and what their choices pass over is what it skips
   pub drawn : k ≡ 0 → {choices : ℕ} → choices ≡ categories size occupancy → (r : Answer) {o : Outcome A}
       → (o ≡ settled write (length words) place (length out) (wanted size choices (length out) (drop place words)))
-      × (sums r ≡ reported r.number (skippedWords (passedEach (replicate (length out / size) choices) (drop place words))))
-      → (o ≡ promised) × (sums r ≡ reported r.number ((blockBinary size occupancy (length out)).skips (drop place words)))
+      × (sums r ≡ reported r.number (skipped_words (passed_each (replicate (length out / size) choices) (drop place words))))
+      → (o ≡ promised) × (sums r ≡ reported r.number ((block_binary size occupancy (length out)).skips (drop place words)))
   drawn z same r s = (
     s.0 ∙ ap (λ (i : ℕ). settled write (length words) place (length out) (wanted size i (length out) (drop place words))) same
-        ∙ rule-passed write (badBlocks size (length out)) words place out number (blockBinary size occupancy (length out)) z,
+        ∙ rule-passed write (bad_blocks size (length out)) words place out number (block_binary size occupancy (length out)) z,
     rw same at s.1,
   )

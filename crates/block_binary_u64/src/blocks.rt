@@ -1,10 +1,10 @@
 // Blocks of the output, each filled in its own part.
 ghost use Rattle.std.specs.Prelude.{◌≡◌, true, ◌%◌, ◌/◌, ◌≤◌, ◌<◌, length, drop, set, replicate};
-ghost use Rattle.distr.specs.Words.{mapRead, chooseEach};
-ghost use Rattle.distr.specs.Blocks.{blocksOf};
+ghost use Rattle.distr.specs.Words.{map_read, choose_each};
+ghost use Rattle.distr.specs.Blocks.{blocks_of};
 ghost use Rattle.distr.specs.Draw.{outcome, settled};
 ghost use Rattle.distr.specs.Answers.{sums, reported};
-ghost use Rattle.distr.specs.Skipped.{skippedWords, passedEach};
+ghost use Rattle.distr.specs.Skipped.{skipped_words, passed_each};
 ghost use Rattle.output_u64.specs.Out.{zero, one, held};
 
 use crate::{Encoding, Out, clear, fill};
@@ -60,8 +60,8 @@ pub(crate) fn draw_blocks(
     ensures output_after { let n = length output.old in
         outcome result output.new
         ≡ settled (held encoding) (length words.now) place n
-        (mapRead (blocksOf block_size) (chooseEach (replicate (n / block_size) choices) (drop place words.now))) }
-    ensures result_value { sums result ≡ reported result.number (skippedWords (passedEach (replicate (length output.old / block_size) choices) (drop place words.now))) }
+        (map_read (blocks_of block_size) (choose_each (replicate (n / block_size) choices) (drop place words.now))) }
+    ensures result_value { sums result ≡ reported result.number (skipped_words (passed_each (replicate (length output.old / block_size) choices) (drop place words.now))) }
 {
     let n = output.len();
     let nothing = block_size / 65537;

@@ -1,9 +1,9 @@
 // Block-binary values: the output is cut into blocks of one size, each with a single one at a chosen place, or none where the occupancy
 // allows it.
 ghost use Rattle.std.specs.Prelude.{◌≡◌, length, drop};
-ghost use Rattle.distr.specs.Blocks.{blockBinary};
-ghost use Rattle.distr.specs.Numbers.{badBlocks};
-ghost use Rattle.distr.specs.Draw.{outcome, ruleDraw};
+ghost use Rattle.distr.specs.Blocks.{block_binary};
+ghost use Rattle.distr.specs.Numbers.{bad_blocks};
+ghost use Rattle.distr.specs.Draw.{outcome, rule_draw};
 ghost use Rattle.distr.specs.Answers.{sums, reported};
 ghost use Rattle.output_u64.specs.Out.{held};
 
@@ -21,10 +21,10 @@ pub fn sample_block_binary_values_to(
     words: &[u32],
     place: usize,
 ) -> Answer
-    ensures output_after { let n = length output.old in outcome result output.new ≡ ruleDraw (held encoding)
-        (badBlocks block_size n) (blockBinary block_size occupancy n)
+    ensures output_after { let n = length output.old in outcome result output.new ≡ rule_draw (held encoding)
+        (bad_blocks block_size n) (block_binary block_size occupancy n)
         words.now place output.old }
-    ensures result_value { sums result ≡ reported result.number ((blockBinary block_size occupancy (length output.old)).skips (drop place words.now)) }
+    ensures result_value { sums result ≡ reported result.number ((block_binary block_size occupancy (length output.old)).skips (drop place words.now)) }
 {
     let own = numbers::block_number(block_size, output.len());
     let number = numbers::draw_number(words.len(), place, output.len(), own);

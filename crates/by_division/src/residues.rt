@@ -1,8 +1,8 @@
 // Residues of a modulus, -1 as modulus - 1. Numbers in order: 22, 6, 9, 23.
 ghost use Rattle.std.specs.Prelude.{◌≡◌, length, drop};
 ghost use Rattle.distr.specs.declared.secret_key_distr.SecretKeyDistr.TheVariants.{UniformTernary};
-ghost use Rattle.distr.specs.Distribution.{secret, skipsOf};
-ghost use Rattle.distr.specs.Draw.{outcome, encodedAtOnce, noTables};
+ghost use Rattle.distr.specs.Distribution.{secret, skips_of};
+ghost use Rattle.distr.specs.Draw.{outcome, encoded_at_once, no_tables};
 ghost use Rattle.distr.specs.Answers.{sums, reported};
 
 use distr::answer::{Answer, refused};
@@ -18,8 +18,8 @@ pub fn sample_uniform_ternary_values_by_division_to(
     words: &[u32],
     place: usize,
 ) -> Answer
-    ensures output_after { outcome result output.new ≡ encodedAtOnce (secret UniformTernary) modulus words.now place output.old }
-    ensures result_value { sums result ≡ reported result.number (skipsOf (secret UniformTernary) (length output.old) noTables (drop place words.now)) }
+    ensures output_after { outcome result output.new ≡ encoded_at_once (secret UniformTernary) modulus words.now place output.old }
+    ensures result_value { sums result ≡ reported result.number (skips_of (secret UniformTernary) (length output.old) no_tables (drop place words.now)) }
 {
     let method = SamplingMethod::UniformTernary;
     let asked = residue_number(method, output.len(), modulus);

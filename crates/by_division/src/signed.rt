@@ -1,8 +1,8 @@
 // Signed coefficients, -1 as itself. Numbers in order: 22, 6, 23.
 ghost use Rattle.std.specs.Prelude.{◌≡◌, length, drop};
 ghost use Rattle.distr.specs.declared.secret_key_distr.SecretKeyDistr.TheVariants.{UniformTernary};
-ghost use Rattle.distr.specs.Distribution.{secret, skipsOf};
-ghost use Rattle.distr.specs.Draw.{outcome, signedAtOnce, noTables};
+ghost use Rattle.distr.specs.Distribution.{secret, skips_of};
+ghost use Rattle.distr.specs.Draw.{outcome, signed_at_once, no_tables};
 ghost use Rattle.distr.specs.Answers.{sums, reported};
 
 use distr::answer::Answer;
@@ -14,8 +14,8 @@ pub fn sample_uniform_ternary_values_by_division_to(
     words: &[u32],
     place: usize,
 ) -> Answer
-    ensures output_after { outcome result output.new ≡ signedAtOnce (secret UniformTernary) words.now place output.old }
-    ensures result_value { sums result ≡ reported result.number (skipsOf (secret UniformTernary) (length output.old) noTables (drop place words.now)) }
+    ensures output_after { outcome result output.new ≡ signed_at_once (secret UniformTernary) words.now place output.old }
+    ensures result_value { sums result ≡ reported result.number (skips_of (secret UniformTernary) (length output.old) no_tables (drop place words.now)) }
 {
     let encoding = Encoding {};
     common_i64::sample_uniform_ternary_values_by_division_to(output, encoding, words, place)

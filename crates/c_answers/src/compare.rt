@@ -1,6 +1,6 @@
 // The comparison of an answer with the stored one.
 ghost use Rattle.std.specs.Prelude.{◌≡◌, length, nat_eq, slice_index};
-ghost use Rattle.c_answers.specs.Answer.{expected as expectedAt, all_below, agreeing};
+ghost use Rattle.c_answers.specs.Answer.{expected as expected_at, all_below, agreeing};
 
 // What an output holds before the call; no coefficient is so large.
 pub(crate) const HELD: u64 = 9999;
@@ -14,7 +14,7 @@ pub(crate) fn value_at(values: &[u64], i: usize) -> u64
 
 // What an element of the output must be: for number 0 the stored coefficient, after a refusal what it held.
 fn expected(coefficients: &[u64], number: u32, i: usize) -> u64
-    ensures { result ≡ expectedAt coefficients.now number i }
+    ensures { result ≡ expected_at coefficients.now number i }
 {
     if number == 0 {
         value_at(coefficients, i)
@@ -26,7 +26,7 @@ fn expected(coefficients: &[u64], number: u32, i: usize) -> u64
 // Whether each element of the output is what it must be.
 fn is_expected(coefficients: &[u64], number: u32, output: &[u64]) -> bool
     ensures { result ≡ all_below (length output.now)
-        (λ i. nat_eq (slice_index output.now i) (expectedAt coefficients.now number i)) }
+        (λ i. nat_eq (slice_index output.now i) (expected_at coefficients.now number i)) }
 {
     let mut equal = true;
     let mut i = 0;

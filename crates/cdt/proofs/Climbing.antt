@@ -17,33 +17,33 @@ use mir.Val.{Fits, bool_byte, to_z, of_z}
 use mir.Facts.{to_z-of_z}
 use borrow.Author.Rules.{sfits_of}
 use borrow.Author.Tests.{leb-true, leb-false, ltb-true, ltb-false, lt-ltb, le-ltb, le-leb, lt-leb}
-use Rattle.distr.specs.Encoding.{encodeWith}
-use Rattle.distr.specs.Gaussian.{cumulativeTable, magnitude, with_sign, cumulativeValue}
+use Rattle.distr.specs.Encoding.{encode_with}
+use Rattle.distr.specs.Gaussian.{cumulative_table, magnitude, with_sign, cumulative_value}
 use Rattle.distr.proofs.Rising.{Rising, is-rising, Largest, largest, rises}
 use Rattle.cdt.specs.declared.index.Sampled.{Sampled}
-use Rattle.cdt.specs.Guided.{intervalEnds, climbed, guideAt, firstStep, sampledBy}
+use Rattle.cdt.specs.Guided.{interval_ends, climbed, guide_at, first_step, sampled_by}
 
 -- a place that is not the last: the search stops there, or goes on from the next
-pub climb-stop : (ends : List ℕ) (word at : ℕ) → at < length ends → word < get_or ends at 0 → climbed (drop at ends) word at ≡ at
+pub climb_stop : (ends : List ℕ) (word at : ℕ) → at < length ends → word < get_or ends at 0 → climbed (drop at ends) word at ≡ at
 unfolding climbed
-climb-stop ends word at h l = rw (drop-cons ends at 0 h, lt-ltb word (get_or ends at 0) l)
+climb_stop ends word at h l = rw (drop-cons ends at 0 h, lt-ltb word (get_or ends at 0) l)
 
-pub climb-on : (ends : List ℕ) (word at : ℕ) → at < length ends → get_or ends at 0 ≤ word
+pub climb_on : (ends : List ℕ) (word at : ℕ) → at < length ends → get_or ends at 0 ≤ word
     → climbed (drop at ends) word at ≡ climbed (drop (suc at) ends) word (suc at)
 unfolding climbed
-climb-on ends word at h l = rw (drop-cons ends at 0 h, le-ltb word (get_or ends at 0) l)
+climb_on ends word at h l = rw (drop-cons ends at 0 h, le-ltb word (get_or ends at 0) l)
 
 -- past the last
-pub climb-end : (ends : List ℕ) (word at : ℕ) → length ends ≤ at → climbed (drop at ends) word at ≡ at
+pub climb_end : (ends : List ℕ) (word at : ℕ) → length ends ≤ at → climbed (drop at ends) word at ≡ at
 unfolding climbed
-climb-end ends word at h = rw (drop_of_length-le ends {i = at} h)
+climb_end ends word at h = rw (drop_of_length-le ends {i = at} h)
 
 -- the first step, by its three ways
 module _ (ends : List ℕ) (word place : ℕ) where
-  pub step-few : length ends < 64 → place ≡ firstStep ends word place
-  step-few h = rw (lt-ltb (length ends) 64 h)
+  pub step_few : length ends < 64 → place ≡ first_step ends word place
+  step_few h = rw (lt-ltb (length ends) 64 h)
 
-  pub step_past : 64 ≤ length ends → length ends ≤ place → place ≡ firstStep ends word place
+  pub step_past : 64 ≤ length ends → length ends ≤ place → place ≡ first_step ends word place
   step_past m h = rw (le-ltb (length ends) 64 m, le-leb (length ends) place h)
 
   pub step_fits : place < length ends → length ends * 8 < 2 ^ 63 → (b : Bool) → Fits w64 (place + bool_byte b)
@@ -51,30 +51,30 @@ module _ (ends : List ℕ) (word place : ℕ) where
   step_fits h room false = record { fits = omega arith }
 
   module _ (m : 64 ≤ length ends) (h : place < length ends) where
-    made : firstStep ends word place ≡ cond (leb (get_or ends place 0) word) (place + 1) place
+    made : first_step ends word place ≡ cond (leb (get_or ends place 0) word) (place + 1) place
     made = rw (le-ltb (length ends) 64 m, lt-leb (length ends) place h)
 
-    pub step-made : place + bool_byte (leb (get_or ends place 0) word) ≡ firstStep ends word place
-    step-made = added (leb (get_or ends place 0) word) ∙ sym made
+    pub step_made : place + bool_byte (leb (get_or ends place 0) word) ≡ first_step ends word place
+    step_made = added (leb (get_or ends place 0) word) ∙ sym made
       where
         added : (b : Bool) → place + bool_byte b ≡ cond b (place + 1) place
         added true = refl
         added false = add-zero place
 
-    on : climbed (drop (firstStep ends word place) ends) word (firstStep ends word place) ≡ climbed (drop place ends) word place
+    on : climbed (drop (first_step ends word place) ends) word (first_step ends word place) ≡ climbed (drop place ends) word place
     on = rw made (go (leb (get_or ends place 0) word) refl)
       where
         go : (b : Bool) → leb (get_or ends place 0) word ≡ b
             → climbed (drop (cond b (place + 1) place) ends) word (cond b (place + 1) place) ≡ climbed (drop place ends) word place
-        go true t = rw (add-one place) (sym (climb-on ends word place h (leb-true (get_or ends place 0) word t)))
+        go true t = rw (add-one place) (sym (climb_on ends word place h (leb-true (get_or ends place 0) word t)))
         go false t = refl
 
   -- the search comes from there to where it comes from the place
-  pub step_same : climbed (drop (firstStep ends word place) ends) word (firstStep ends word place) ≡ climbed (drop place ends) word place
+  pub step_same : climbed (drop (first_step ends word place) ends) word (first_step ends word place) ≡ climbed (drop place ends) word place
   step_same = go (ltb (length ends) 64) refl (leb (length ends) place) refl
     where
       go : (b : Bool) → ltb (length ends) 64 ≡ b → (d : Bool) → leb (length ends) place ≡ d
-          → climbed (drop (firstStep ends word place) ends) word (firstStep ends word place) ≡ climbed (drop place ends) word place
+          → climbed (drop (first_step ends word place) ends) word (first_step ends word place) ≡ climbed (drop place ends) word place
       go true t d u = rw t
       go false t true u = rw (t, u)
       go false t false u = on (ltb-false (length ends) 64 t) (leb-false (length ends) place u)
@@ -83,22 +83,22 @@ module _ (ends : List ℕ) (word place : ℕ) where
 pub record Filling (ends guide : List ℕ) (place k : ℕ) : Type 0 where
   pub long : length guide ≡ 256
   pub most : k ≤ 256
-  pub next : climbed (drop place ends) (k * 2 ^ 56) place ≡ guideAt ends k
-  pub entries : (j : ℕ) → j < k → get_or guide j 0 ≡ guideAt ends j
+  pub next : climbed (drop place ends) (k * 2 ^ 56) place ≡ guide_at ends k
+  pub entries : (j : ℕ) → j < k → get_or guide j 0 ≡ guide_at ends j
 
-pub filling-none : (ends guide : List ℕ) → guide ≡ replicate 256 0 → Filling ends guide 0 0
-unfolding guideAt
-filling-none ends guide e = record {
+pub filling_none : (ends guide : List ℕ) → guide ≡ replicate 256 0 → Filling ends guide 0 0
+unfolding guide_at
+filling_none ends guide e = record {
   long = ap length e ∙ length-replicate {A = ℕ} 256 0;
   most = omega arith;
   next = refl;
   entries = λ j h. absurd (omega arith);
 }
 
-pub filling-more : (ends guide : List ℕ) (place k : ℕ) {found : ℕ} → Filling ends guide place k → k < 256
+pub filling_more : (ends guide : List ℕ) (place k : ℕ) {found : ℕ} → Filling ends guide place k → k < 256
     → found ≡ climbed (drop place ends) (k * 2 ^ 56) place → Filling ends (set guide k found) found (k + 1)
-unfolding guideAt
-filling-more ends guide place k {found} f h e = record {
+unfolding guide_at
+filling_more ends guide place k {found} f h e = record {
   long = length-set guide k found ∙ f.long;
   most = omega arith;
   next = rw (add-one k, e, f.next);
@@ -106,7 +106,7 @@ filling-more ends guide place k {found} f h e = record {
       (λ (p : j < k). get_or-set_other guide k j found 0 (λ q. omega arith) ∙ f.entries j p) (eq-or-lt_of_le (omega arith));
 }
 
-module _ (bounds : List ℕ) (top : ℕ) (t : T (cumulativeTable top bounds)) where
+module _ (bounds : List ℕ) (top : ℕ) (t : T (cumulative_table top bounds)) where
   table : Rising (top + 2) (2 ^ 64 - 1) bounds
   table = is-rising (top + 2) (2 ^ 64 - 1) bounds t
 
@@ -116,11 +116,11 @@ module _ (bounds : List ℕ) (top : ℕ) (t : T (cumulativeTable top bounds)) wh
   found : (w : ℕ) → Largest bounds top w (magnitude bounds top w)
   found w = largest bounds top w (omega (arith, table.first))
 
-  magnitude-top : (w : ℕ) → magnitude bounds top w ≤ top
-  magnitude-top w = (found w).top
+  magnitude_top : (w : ℕ) → magnitude bounds top w ≤ top
+  magnitude_top w = (found w).top
 
   abbrev ends : List ℕ
-  ends = intervalEnds top bounds
+  ends = interval_ends top bounds
 
   long : length ends ≡ top
   long = simp (length-take, length-drop) (omega (arith, table-length))
@@ -140,7 +140,7 @@ module _ (bounds : List ℕ) (top : ℕ) (t : T (cumulativeTable top bounds)) wh
       go : (b : Bool) → leb j (magnitude bounds top w) ≡ b → magnitude bounds top w < j
       go true e = absurd (omega (
         arith,
-        rises bounds table.never-falls j (magnitude bounds top w) (leb-true j (magnitude bounds top w) e) (omega (arith, magnitude-top w, table-length)),
+        rises bounds table.never_falls_lem j (magnitude bounds top w) (leb-true j (magnitude bounds top w) e) (omega (arith, magnitude_top w, table-length)),
         (found w).reached,
       ))
       go false e = leb-false j (magnitude bounds top w) e
@@ -150,11 +150,11 @@ module _ (bounds : List ℕ) (top : ℕ) (t : T (cumulativeTable top bounds)) wh
   stopped w j h l k = omega (arith, past w (j + 1) (omega arith) k)
 
   at_top : (w j : ℕ) → j ≤ magnitude bounds top w → top ≤ j → j ≡ magnitude bounds top w
-  at_top w j h l = omega (arith, magnitude-top w)
+  at_top w j h l = omega (arith, magnitude_top w)
 
   -- a larger word has no smaller magnitude
   grows : (v w : ℕ) → v ≤ w → magnitude bounds top v ≤ magnitude bounds top w
-  grows v w h = at_most w (magnitude bounds top v) (magnitude-top v) (omega (arith, (found v).reached))
+  grows v w h = at_most w (magnitude bounds top v) (magnitude_top v) (omega (arith, (found v).reached))
 
   -- from a place that is not past it the search comes to the magnitude: it stops there, or goes on
   step : (w j : ℕ) → j < top → j ≤ magnitude bounds top w → (suc j ≤ magnitude bounds top w → climbed (drop (suc j) ends) w (suc j) ≡ magnitude bounds top w)
@@ -165,23 +165,23 @@ module _ (bounds : List ℕ) (top : ℕ) (t : T (cumulativeTable top bounds)) wh
       end = get_or-take top (drop 1 bounds) j 0 h ∙ get_or-drop 1 bounds j 0 ∙ ap (λ (i : ℕ). get_or bounds i 0) (add_comm 1 j)
 
       go : (b : Bool) → ltb w (get_or bounds (j + 1) 0) ≡ b → climbed (drop j ends) w j ≡ magnitude bounds top w
-      go true t = climb-stop ends w j (omega (arith, long)) (rw end (ltb-true _ _ t)) ∙ stopped w j l h (ltb-true _ _ t)
+      go true t = climb_stop ends w j (omega (arith, long)) (rw end (ltb-true _ _ t)) ∙ stopped w j l h (ltb-true _ _ t)
       go false t =
-          climb-on ends w j (omega (arith, long)) (rw end (ltb-false _ _ t))
+          climb_on ends w j (omega (arith, long)) (rw end (ltb-false _ _ t))
           ∙ on (rw (← add-one j) (at_most w (j + 1) (omega arith) (ltb-false _ _ t)))
 
   climb : (w m j : ℕ) → j + m ≡ top → j ≤ magnitude bounds top w → climbed (drop j ends) w j ≡ magnitude bounds top w
-  climb w zero j e h = climb-end ends w j (omega (arith, long)) ∙ at_top w j h (omega arith)
+  climb w zero j e h = climb_end ends w j (omega (arith, long)) ∙ at_top w j h (omega arith)
   climb w (suc m) j e h = step w j (omega arith) h (climb w m (suc j) (omega arith))
 
   found_from : (w j : ℕ) → j ≤ magnitude bounds top w → climbed (drop j ends) w j ≡ magnitude bounds top w
-  found_from w j h = climb w (top - j) j (omega (arith, magnitude-top w)) h
+  found_from w j h = climb w (top - j) j (omega (arith, magnitude_top w)) h
 
   -- an entry of the guide is the magnitude of its word, and not past that of another word with its bits
-  guide-entry : (k : ℕ) → guideAt ends k ≡ magnitude bounds top (k * 2 ^ 56)
-  unfolding guideAt
-  guide-entry zero = found_from 0 0 (omega arith)
-  guide-entry (suc k) = rw (guide-entry k) (found_from (suc k * 2 ^ 56) _ (grows (k * 2 ^ 56) (suc k * 2 ^ 56) (omega arith)))
+  guide_entry : (k : ℕ) → guide_at ends k ≡ magnitude bounds top (k * 2 ^ 56)
+  unfolding guide_at
+  guide_entry zero = found_from 0 0 (omega arith)
+  guide_entry (suc k) = rw (guide_entry k) (found_from (suc k * 2 ^ 56) _ (grows (k * 2 ^ 56) (suc k * 2 ^ 56) (omega arith)))
 
   -- what is sampled by the guide of these intervals is the rule's coefficient
   -- the bound after the top's is there
@@ -192,28 +192,28 @@ module _ (bounds : List ℕ) (top : ℕ) (t : T (cumulativeTable top bounds)) wh
   last_fits room = record { fits = omega (arith, table-length) }
 
   -- the coefficient of a word, by the ends as a draw cuts them out of the table and by their guide
-  module _ (guide : List ℕ) (made : (k : ℕ) → k < 256 → get_or guide k 0 ≡ guideAt (intervalEnds (top + 1 - 1) bounds) k)
-      (w : ℕ) (small : w < 2 ^ 64) {s : Sampled} (e : s ≡ sampledBy (intervalEnds (top + 1 - 1) bounds) guide w) where
+  module _ (guide : List ℕ) (made : (k : ℕ) → k < 256 → get_or guide k 0 ≡ guide_at (interval_ends (top + 1 - 1) bounds) k)
+      (w : ℕ) (small : w < 2 ^ 64) {s : Sampled} (e : s ≡ sampled_by (interval_ends (top + 1 - 1) bounds) guide w) where
     all : top + 1 - 1 ≡ top
     all = omega arith
 
     start : get_or guide (w / 2 ^ 56) 0 ≤ magnitude bounds top w
     start =
-        rw (made (w / 2 ^ 56) (omega arith), all, guide-entry (w / 2 ^ 56))
+        rw (made (w / 2 ^ 56) (omega arith), all, guide_entry (w / 2 ^ 56))
         (grows (w / 2 ^ 56 * 2 ^ 56) w (omega (arith, div-add-mod' w (2 ^ 56))))
 
     reached : s.magnitude ≡ magnitude bounds top w
     reached = rw (e, all) (found_from w (get_or guide (w / 2 ^ 56) 0) start)
 
-    value : with_sign s.positive s.magnitude ≡ cumulativeValue top bounds w
+    value : with_sign s.positive s.magnitude ≡ cumulative_value top bounds w
     value = rw (reached, e)
 
     -- as an i64 holds it, which holds both signs of it, and as a residue
     pub sampled-signed : {r : ℤ} → mag r < 2 ^ 63 → length bounds * 8 < 2 ^ 63
-        → r ≡ cond (ltb s.magnitude (2 ^ 63)) (with_sign s.positive s.magnitude) (pos 0) → to_z w64 (of_z w64 r) ≡ cumulativeValue top bounds w
+        → r ≡ cond (ltb s.magnitude (2 ^ 63)) (with_sign s.positive s.magnitude) (pos 0) → to_z w64 (of_z w64 r) ≡ cumulative_value top bounds w
     sampled-signed fits room q =
-        let below : s.magnitude < 2 ^ 63 = rw reached (omega (arith, magnitude-top w, table-length)) in
+        let below : s.magnitude < 2 ^ 63 = rw reached (omega (arith, magnitude_top w, table-length)) in
         to_z-of_z (sfits_of fits) ∙ (rw (lt-ltb s.magnitude (2 ^ 63) below) at q) ∙ value
 
-    pub sampled-encoded : (one : ℕ) {r : ℕ} → r ≡ encodeWith one (with_sign s.positive s.magnitude) → r ≡ encodeWith one (cumulativeValue top bounds w)
-    sampled-encoded one q = q ∙ ap (encodeWith one) value
+    pub sampled_encoded : (one : ℕ) {r : ℕ} → r ≡ encode_with one (with_sign s.positive s.magnitude) → r ≡ encode_with one (cumulative_value top bounds w)
+    sampled_encoded one q = q ∙ ap (encode_with one) value

@@ -9,30 +9,30 @@ use lib.ListN.{length, get_or, drop, replicate}
 use lib.IntN.{ℤ, pos}
 use Rattle.distr.specs.declared.answer.Answer.{Answer}
 use Rattle.distr.specs.Words.{got}
-use Rattle.distr.specs.Constants.{invalidCumulativeTable, outOfWords}
-use Rattle.distr.specs.Gaussian.{cumulativeTable, cumulativeValue}
+use Rattle.distr.specs.Constants.{invalid_cumulative_table, out_of_words}
+use Rattle.distr.specs.Gaussian.{cumulative_table, cumulative_value}
 use Rattle.distr.specs.Making.{refuse}
 use Rattle.distr.specs.Draw.{outcome}
-use Rattle.numbers.specs.Answering.{wideRead, answer_of}
-use Rattle.numbers.proofs.WideNumbers.{answer-free, answer-enough}
-use Rattle.numbers.proofs.WideDraws.{draw-cleared, draw-refused, draw-read}
-use Rattle.cdt.specs.Drawn.{cumulativeNumber, cumulativeDraw}
+use Rattle.numbers.specs.Answering.{wide_read, answer_of}
+use Rattle.numbers.proofs.WideNumbers.{answer_free, answer-enough}
+use Rattle.numbers.proofs.WideDraws.{draw_cleared, draw-refused, draw_read}
+use Rattle.cdt.specs.Drawn.{cumulative_number, cumulative_draw}
 
 -- the number of a table is below 23, and a table without one is good
-table-low : (ok : Bool) → refuse (not ok) invalidCumulativeTable < outOfWords
+table-low : (ok : Bool) → refuse (not ok) invalid_cumulative_table < out_of_words
 table-low true = lit< tt
 table-low false = lit< tt
 
-table-good : (ok : Bool) → refuse (not ok) invalidCumulativeTable ≡ 0 → T ok
+table-good : (ok : Bool) → refuse (not ok) invalid_cumulative_table ≡ 0 → T ok
 table-good true z = tt
 table-good false z = absurd (omega arith)
 
 -- the table's number k, the answer a, and what the output holds then
 module _ {A : Type 0} (write : List ℤ → List A) (f : ℤ → A) (each : (cs : List ℤ) → write cs ≡ map f cs) (M : ℕ) (bounds words : List ℕ) (place : ℕ)
-    (out : List A) {k : ℕ} (own : k ≡ cumulativeNumber M bounds) {a : Answer}
+    (out : List A) {k : ℕ} (own : k ≡ cumulative_number M bounds) {a : Answer}
     (d : a ≡ answer_of k true (length words) place (length out)) where
   abbrev number : ℕ
-  number = cumulativeNumber M bounds
+  number = cumulative_number M bounds
 
   abbrev n : ℕ
   n = length out
@@ -40,25 +40,25 @@ module _ {A : Type 0} (write : List ℤ → List A) (f : ℤ → A) (each : (cs 
   told : a ≡ answer_of number true (length words) place n
   told = rw own at d
 
-  pub cdt-ready : a.number ≡ 0 → T (cumulativeTable M bounds) × (place + 2 * n ≤ length words)
-  cdt-ready z = (
-    table-good (cumulativeTable M bounds) (answer-free number (length words) place n told z),
+  pub cdt_ready : a.number ≡ 0 → T (cumulative_table M bounds) × (place + 2 * n ≤ length words)
+  cdt_ready z = (
+    table-good (cumulative_table M bounds) (answer_free number (length words) place n told z),
     answer-enough number (length words) place n told z,
   )
 
   module _ {final : List A} where
-    pub cdt-cleared : a.number ≡ outOfWords → final ≡ replicate n (f (pos 0)) → outcome a final ≡ cumulativeDraw write M bounds words place out
-    cdt-cleared =
-        draw-cleared write f each number (table-low (cumulativeTable M bounds)) words place out (pos 0) (cumulativeValue M bounds) _ true refl a told final
+    pub cdt_cleared : a.number ≡ out_of_words → final ≡ replicate n (f (pos 0)) → outcome a final ≡ cumulative_draw write M bounds words place out
+    cdt_cleared =
+        draw_cleared write f each number (table-low (cumulative_table M bounds)) words place out (pos 0) (cumulative_value M bounds) _ true refl a told final
 
-    pub cdt-refused : (a.number ≡ outOfWords → ⊥) → (a.number ≡ 0 → ⊥) → final ≡ out
-        → outcome a final ≡ cumulativeDraw write M bounds words place out
-    cdt-refused =
-        draw-refused write f each number (table-low (cumulativeTable M bounds)) words place out (pos 0) (cumulativeValue M bounds) _ true refl a told final
+    pub cdt_refused : (a.number ≡ out_of_words → ⊥) → (a.number ≡ 0 → ⊥) → final ≡ out
+        → outcome a final ≡ cumulative_draw write M bounds words place out
+    cdt_refused =
+        draw-refused write f each number (table-low (cumulative_table M bounds)) words place out (pos 0) (cumulative_value M bounds) _ true refl a told final
 
-    pub cdt-read : a.number ≡ 0 → ((i : ℕ) → get_or words i 0 < 2 ^ 32)
-        → wideRead (λ w. f (cumulativeValue M bounds w)) n (drop place words) ≡ got final (drop (place + 2 * n) words)
-        → outcome a final ≡ cumulativeDraw write M bounds words place out
-    cdt-read z bounded =
-        draw-read write f each number (table-low (cumulativeTable M bounds)) words place out (pos 0) (cumulativeValue M bounds) _ true refl a told final
-        z refl bounded (λ w. f (cumulativeValue M bounds w)) (λ w h. refl)
+    pub cdt_read : a.number ≡ 0 → ((i : ℕ) → get_or words i 0 < 2 ^ 32)
+        → wide_read (λ w. f (cumulative_value M bounds w)) n (drop place words) ≡ got final (drop (place + 2 * n) words)
+        → outcome a final ≡ cumulative_draw write M bounds words place out
+    cdt_read z bounded =
+        draw_read write f each number (table-low (cumulative_table M bounds)) words place out (pos 0) (cumulative_value M bounds) _ true refl a told final
+        z refl bounded (λ w. f (cumulative_value M bounds w)) (λ w h. refl)

@@ -1,7 +1,7 @@
 // The search of a cumulative table: up from the place that a guide gives. Most words find their place in the guide at once. The search goes by
 // the ends of the intervals: the words of magnitude m are those below ends[m], and the last magnitude has no end.
 ghost use Rattle.std.specs.Prelude.{◌≡◌, ℕ, ◌<◌, get_or, drop, replicate};
-ghost use Rattle.cdt.specs.Guided.{climbed, guideAt, firstStep, sampledBy};
+ghost use Rattle.cdt.specs.Guided.{climbed, guide_at, first_step, sampled_by};
 
 // Where the search of a word starts, by its highest eight bits.
 pub type Guide = [usize; 256];
@@ -39,7 +39,7 @@ fn guide_room() -> Guide
 
 // The guide of a table: entry k is the index of the word k * 2^56, and is found from the entry before it. It is made once for a draw.
 pub fn make_guide(ends: &[u64]) -> Guide
-    ensures { (k : ℕ) → k < 256 → get_or result k 0 ≡ guideAt ends.now k }
+    ensures { (k : ℕ) → k < 256 → get_or result k 0 ≡ guide_at ends.now k }
 {
     let mut guide = guide_room();
     let mut at: usize = 0;
@@ -55,7 +55,7 @@ pub fn make_guide(ends: &[u64]) -> Guide
 // Where a search goes on after the end at a place. Among many ends it is compared and not branched on, since a branch would be guessed wrong as
 // often as not; among few the place itself, since the guide's entry mostly is the magnitude.
 fn first_step(ends: &[u64], word: u64, place: usize) -> usize
-    ensures { result ≡ firstStep ends.now word place }
+    ensures { result ≡ first_step ends.now word place }
 {
     if ends.len() < MANY_ENDS {
         return place;
@@ -68,7 +68,7 @@ fn first_step(ends: &[u64], word: u64, place: usize) -> usize
 
 // The coefficient of a word: its magnitude by the table, from the guide's entry on, and positive where the word is odd.
 pub fn sample_magnitude(ends: &[u64], guide: &Guide, word: u64) -> Sampled
-    ensures { result ≡ sampledBy ends.now guide.now word }
+    ensures { result ≡ sampled_by ends.now guide.now word }
 {
     let guided = guide[(word / 0x100_0000_0000_0000) as usize];
     let start = first_step(ends, word, guided);

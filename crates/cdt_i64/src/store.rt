@@ -1,9 +1,9 @@
 // The loop that stores.
 ghost use Rattle.std.specs.Prelude.{◌≡◌, ◌+◌, ◌*◌, ◌≤◌, T, length, drop};
-ghost use Rattle.distr.specs.Gaussian.{cumulativeTable, cumulativeValue};
+ghost use Rattle.distr.specs.Gaussian.{cumulative_table, cumulative_value};
 ghost use Rattle.distr.specs.Words.{got};
-ghost use Rattle.numbers.specs.Answering.{wideRead};
-ghost use Rattle.output_i64.specs.Out.{heldOne};
+ghost use Rattle.numbers.specs.Answering.{wide_read};
+ghost use Rattle.output_i64.specs.Out.{held_one};
 
 use crate::{Encoding, Out, coefficient};
 use cdt::index::{make_guide, sample_magnitude};
@@ -18,8 +18,8 @@ pub(crate) fn fill(
     words: &[u32],
     place: usize,
 )
-    requires { T (cumulativeTable top bounds.now) × (place + 2 * length output.old ≤ length words.now) }
-    ensures { wideRead (λ w. heldOne encoding (cumulativeValue top bounds.now w)) (length output.old) (drop place words.now) ≡
+    requires { T (cumulative_table top bounds.now) × (place + 2 * length output.old ≤ length words.now) }
+    ensures { wide_read (λ w. held_one encoding (cumulative_value top bounds.now w)) (length output.old) (drop place words.now) ≡
         got output.new (drop (place + 2 * length output.old) words.now) }
 {
     let n = output.len();

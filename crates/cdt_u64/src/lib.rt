@@ -4,7 +4,7 @@ ghost use Rattle.std.specs.Prelude.{◌≡◌, length, drop};
 ghost use Rattle.distr.specs.Draw.{outcome};
 ghost use Rattle.distr.specs.Answers.{sums, reported};
 ghost use Rattle.distr.specs.Gaussian.{cumulative};
-ghost use Rattle.cdt.specs.Drawn.{cumulativeDraw};
+ghost use Rattle.cdt.specs.Drawn.{cumulative_draw};
 ghost use Rattle.output_u64.specs.Out.{held};
 
 use cdt::table_number;
@@ -26,7 +26,7 @@ pub fn sample_cdt_to(
     place: usize,
 ) -> Answer
     ensures output_after { outcome result output.new ≡
-        cumulativeDraw (held encoding) maximum_magnitude bounds.now words.now place output.old }
+        cumulative_draw (held encoding) maximum_magnitude bounds.now words.now place output.old }
     ensures result_value { sums result ≡ reported result.number ((cumulative maximum_magnitude bounds.now (length output.old)).skips (drop place words.now)) }
 {
     let own = table_number(maximum_magnitude, bounds);

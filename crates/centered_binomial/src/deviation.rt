@@ -1,7 +1,7 @@
 // The standard deviation of the centered binomial: the square root of its variance, eta / 2.
 ghost use Rattle.std.specs.Prelude.{◌≡◌};
-ghost use Rattle.centered_binomial.specs.Binomial.{etaNumber};
-ghost use Rattle.centered_binomial.specs.Deviation.{binomialDeviation, NearestRoot};
+ghost use Rattle.centered_binomial.specs.Binomial.{eta_number};
+ghost use Rattle.centered_binomial.specs.Deviation.{binomial_deviation, NearestRoot};
 
 use distr::limits::MAX_ETA;
 
@@ -23,7 +23,7 @@ const DEVIATIONS: [[f64; 3]; 11] = [
 // The f64 nearest to the root of eta / 2, for each eta that has a sampler. No sampler has another eta: 0 gives 0.0, which is its root, and so
 // does any eta above 32.
 pub fn standard_deviation(eta: u32) -> f64
-    ensures { (result ≡ binomialDeviation eta) × (etaNumber eta ≡ 0 → NearestRoot eta result) }
+    ensures { (result ≡ binomial_deviation eta) × (eta_number eta ≡ 0 → NearestRoot eta result) }
 {
     if eta <= MAX_ETA {
         let at = eta as usize;

@@ -5,7 +5,7 @@ pub mod deviation;
 ghost use Rattle.std.specs.Prelude.{◌≡◌, cond};
 ghost use Rattle.std.specs.Int.Bits.{bit_and};
 ghost use Rattle.std.specs.Int.Count.{ones};
-ghost use Rattle.centered_binomial.specs.Binomial.{making, isMadeBinomial, upperMask};
+ghost use Rattle.centered_binomial.specs.Binomial.{making, is_made_binomial, upper_mask};
 
 use distr::limits::MAX_ETA;
 use distr::refusal::INVALID_ETA;
@@ -55,7 +55,7 @@ impl CenteredBinomialParameters {
 
 // Whether making gives these parameters: the fields are public, so a caller can write any values there.
 pub fn is_made(parameters: CenteredBinomialParameters) -> bool
-    ensures { result ≡ isMadeBinomial parameters }
+    ensures { result ≡ is_made_binomial parameters }
 {
     let made = CenteredBinomialParameters::new(parameters.eta);
     (made.number == 0) & (parameters.mask == made.parameters.mask)
@@ -63,7 +63,7 @@ pub fn is_made(parameters: CenteredBinomialParameters) -> bool
 
 // The mask of the eta bits above those of the mask, or 0 for parameters that making never gives.
 pub fn upper_mask(parameters: CenteredBinomialParameters) -> u64
-    ensures { result ≡ cond (isMadeBinomial parameters) (upperMask parameters) 0 }
+    ensures { result ≡ cond (is_made_binomial parameters) (upper_mask parameters) 0 }
 {
     if !is_made(parameters) {
         return 0;

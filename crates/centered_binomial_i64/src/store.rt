@@ -1,10 +1,10 @@
 // What an output type adds: the loop that stores.
 ghost use Rattle.std.specs.Prelude.{◌≡◌, ◌+◌, ◌*◌, length, drop};
-ghost use Rattle.distr.specs.CenteredBinomial.{binomialValue};
+ghost use Rattle.distr.specs.CenteredBinomial.{binomial_value};
 ghost use Rattle.distr.specs.Words.{got};
-ghost use Rattle.numbers.specs.Answering.{wideRead};
+ghost use Rattle.numbers.specs.Answering.{wide_read};
 ghost use Rattle.centered_binomial.specs.Binomial.{Ready};
-ghost use Rattle.output_i64.specs.Out.{heldOne};
+ghost use Rattle.output_i64.specs.Out.{held_one};
 
 use crate::{Encoding, Out, difference};
 use centered_binomial::CenteredBinomialParameters;
@@ -19,7 +19,7 @@ pub(crate) fn fill(
     place: usize,
 )
     requires { Ready parameters (length output.old) (length words.now) place }
-    ensures { wideRead (λ w. heldOne encoding (binomialValue parameters.eta w)) (length output.old) (drop place words.now) ≡
+    ensures { wide_read (λ w. held_one encoding (binomial_value parameters.eta w)) (length output.old) (drop place words.now) ≡
         got output.new (drop (place + 2 * length output.old) words.now) }
 {
     let n = output.len();

@@ -2,8 +2,8 @@
 ghost use Rattle.std.specs.Prelude.{◌≡◌, length, drop};
 ghost use Rattle.distr.specs.Draw.{outcome};
 ghost use Rattle.distr.specs.Answers.{sums, reported};
-ghost use Rattle.distr.specs.CenteredBinomial.{centeredBinomial};
-ghost use Rattle.centered_binomial.specs.Binomial.{binomialDraw};
+ghost use Rattle.distr.specs.CenteredBinomial.{centered_binomial};
+ghost use Rattle.centered_binomial.specs.Binomial.{binomial_draw};
 ghost use Rattle.output_u64.specs.Out.{held};
 
 use crate::{Encoding, Out, clear, store};
@@ -20,8 +20,8 @@ pub fn sample_binomial_to(
     words: &[u32],
     place: usize,
 ) -> Answer
-    ensures output_after { outcome result output.new ≡ binomialDraw (held encoding) parameters words.now place output.old }
-    ensures result_value { sums result ≡ reported result.number ((centeredBinomial parameters.eta (length output.old)).skips (drop place words.now)) }
+    ensures output_after { outcome result output.new ≡ binomial_draw (held encoding) parameters words.now place output.old }
+    ensures result_value { sums result ≡ reported result.number ((centered_binomial parameters.eta (length output.old)).skips (drop place words.now)) }
 {
     if !centered_binomial::is_made(parameters) {
         return refused(NEVER_MADE, place);

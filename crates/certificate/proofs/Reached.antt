@@ -12,20 +12,20 @@ use lib.IntN.{ℤ, pos}
 use lib.Ieee.{Float}
 use Rattle.distr.specs.declared.secret_key_distr.SecretKeyDistr.TheVariants.{UniformBinary, Binary, SparseTernary, UniformTernary, Ternary, FixedHammingWeightBinary, BlockBinary, FixedHammingWeightTernary, FixedCompositionTernary, Gaussian}
 use Rattle.distr.specs.declared.error_distribution.ErrorDistribution.TheVariants.{CenteredBinomial, Gaussian as ErrorGaussian}
-use Rattle.distr.specs.Words.{Read, got, short, mapRead}
+use Rattle.distr.specs.Words.{Read, got, short, map_read}
 use Rattle.distr.specs.Rule.{Rule, read_by}
-use Rattle.distr.specs.Constants.{cumulativeLimit}
-use Rattle.distr.specs.Gaussian.{support, cumulativeTable, cumulative}
-use Rattle.distr.specs.Distribution.{Distr, secret, error, Tables, onDeviation, isLayered, gaussianRead, coefficients, rule, secretRule, errorRule}
-use Rattle.distr.specs.Making.{refuse, makingNumber}
-use Rattle.distr.specs.Numbers.{first_of, tooLong, lengthNumber, layerIndex, gaussianTable, tableNumber, tableIndex, stateNumbers, signedNumbers}
-use Rattle.distr.specs.Draw.{Outcome, settled, judged, naming, signedDraw, noTables}
-use Rattle.draw_laws.proofs.Small.{Apart, below_apart, signed-apart}
+use Rattle.distr.specs.Constants.{cumulative_limit}
+use Rattle.distr.specs.Gaussian.{support, cumulative_table, cumulative}
+use Rattle.distr.specs.Distribution.{Distr, secret, error, Tables, on_deviation, is_layered, gaussian_read, coefficients, rule, secret_rule, error_rule}
+use Rattle.distr.specs.Making.{refuse, making_number}
+use Rattle.distr.specs.Numbers.{first_of, too_long, length_number, layer_index, gaussian_table, table_number, table_index, state_numbers, signed_numbers}
+use Rattle.distr.specs.Draw.{Outcome, settled, judged, naming, signed_draw, no_tables}
+use Rattle.draw_laws.proofs.Small.{Apart, below_apart, signed_apart}
 use Rattle.counts.specs.DrawLists.{Carries}
 use Rattle.counts.specs.Inside.{inside}
 use Rattle.counts.specs.Formula.{formula}
-use Rattle.counts.proofs.Exact.{Counted, exactly-as}
-use Rattle.counts.proofs.Requests.{what-passed, requests-counted}
+use Rattle.counts.proofs.Exact.{Counted, exactly_as}
+use Rattle.counts.proofs.Requests.{what_passed, requests_counted}
 use Rattle.certificate.specs.Certificate.{CallFor, Accepted, DrawList, Reaches, Demand3}
 use Rattle.certificate.proofs.Tails.{stops}
 
@@ -33,11 +33,11 @@ use Rattle.certificate.proofs.Tails.{stops}
 
 -- the request's own table, and no layers
 abbrev lending : List ℕ → Tables
-lending bounds = record { bounds = bounds; layers = noTables.layers }
+lending bounds = record { bounds = bounds; layers = no_tables.layers }
 
 -- what both parts of a choice by distribution give
-either : {A : Type 0} (d : Distr) (a : A) → onDeviation d (λ deviation. a) a ≡ a
-unfolding onDeviation
+either : {A : Type 0} (d : Distr) (a : A) → on_deviation d (λ deviation. a) a ≡ a
+unfolding on_deviation
 either (secret UniformBinary) a = refl
 either (secret (Binary p)) a = refl
 either (secret SparseTernary) a = refl
@@ -53,27 +53,27 @@ either (error (CenteredBinomial eta)) a = refl
 
 -- the number of the tables, and the coefficients
 record Alike (d : Distr) (bounds : List ℕ) (tables : Tables) : Type 0 where
-  number : tableNumber d tables ≡ tableNumber d (lending bounds)
+  number : table_number d tables ≡ table_number d (lending bounds)
   reading : (n : ℕ) (ws : List ℕ) → coefficients d n tables ws ≡ read_by (rule d n bounds) ws
 
 by-table : {A : Type 0} (b : Bool) (x y : A) → T (not (not b)) → cond b x y ≡ x
 by-table true x y t = refl
 by-table false x y t = absurd t
 
-gaussian-number : (M : ℕ) (bounds : List ℕ) (tables : Tables) → T (not (not (leb M cumulativeLimit))) → tables.bounds ≡ bounds
-    → gaussianTable M tables ≡ gaussianTable M (lending bounds)
-gaussian-number M bounds tables t e =
-    by-table (leb M cumulativeLimit) _ _ t ∙ ap (λ (b : List ℕ). refuse (not (cumulativeTable M b)) 12) e
-    ∙ sym (by-table (leb M cumulativeLimit) (refuse (not (cumulativeTable M bounds)) 12) _ t)
+gaussian_number_lem : (M : ℕ) (bounds : List ℕ) (tables : Tables) → T (not (not (leb M cumulative_limit))) → tables.bounds ≡ bounds
+    → gaussian_table M tables ≡ gaussian_table M (lending bounds)
+gaussian_number_lem M bounds tables t e =
+    by-table (leb M cumulative_limit) _ _ t ∙ ap (λ (b : List ℕ). refuse (not (cumulative_table M b)) 12) e
+    ∙ sym (by-table (leb M cumulative_limit) (refuse (not (cumulative_table M bounds)) 12) _ t)
 
-gaussian-reading : (deviation : Float) (bounds : List ℕ) (tables : Tables) → T (not (not (leb (support deviation) cumulativeLimit)))
+gaussian_reading : (deviation : Float) (bounds : List ℕ) (tables : Tables) → T (not (not (leb (support deviation) cumulative_limit)))
     → tables.bounds ≡ bounds → (n : ℕ) (ws : List ℕ)
-    → gaussianRead deviation (support deviation) tables n ws ≡ read_by (cumulative (support deviation) bounds n) ws
-gaussian-reading deviation bounds tables t e n ws =
-    by-table (leb (support deviation) cumulativeLimit) _ _ t ∙ ap (λ (b : List ℕ). read_by (cumulative (support deviation) b n) ws) e
+    → gaussian_read deviation (support deviation) tables n ws ≡ read_by (cumulative (support deviation) bounds n) ws
+gaussian_reading deviation bounds tables t e n ws =
+    by-table (leb (support deviation) cumulative_limit) _ _ t ∙ ap (λ (b : List ℕ). read_by (cumulative (support deviation) b n) ws) e
 
-alike : (d : Distr) (bounds : List ℕ) (tables : Tables) → T (not (isLayered d)) → CallFor d bounds tables → Alike d bounds tables
-unfolding coefficients tableNumber onDeviation rule secretRule errorRule
+alike : (d : Distr) (bounds : List ℕ) (tables : Tables) → T (not (is_layered d)) → CallFor d bounds tables → Alike d bounds tables
+unfolding coefficients table_number on_deviation rule secret_rule error_rule
 alike (secret UniformBinary) bounds tables t e = record { number = refl; reading = λ n ws. refl }
 alike (secret (Binary p)) bounds tables t e = record { number = refl; reading = λ n ws. refl }
 alike (secret SparseTernary) bounds tables t e = record { number = refl; reading = λ n ws. refl }
@@ -84,16 +84,16 @@ alike (secret (BlockBinary size occupancy)) bounds tables t e = record { number 
 alike (secret (FixedHammingWeightTernary h)) bounds tables t e = record { number = refl; reading = λ n ws. refl }
 alike (secret (FixedCompositionTernary minus ones)) bounds tables t e = record { number = refl; reading = λ n ws. refl }
 alike (secret (Gaussian deviation)) bounds tables t e =
-    record { number = gaussian-number (support deviation) bounds tables t e; reading = gaussian-reading deviation bounds tables t e }
+    record { number = gaussian_number_lem (support deviation) bounds tables t e; reading = gaussian_reading deviation bounds tables t e }
 alike (error (ErrorGaussian deviation)) bounds tables t e =
-    record { number = gaussian-number (support deviation) bounds tables t e; reading = gaussian-reading deviation bounds tables t e }
+    record { number = gaussian_number_lem (support deviation) bounds tables t e; reading = gaussian_reading deviation bounds tables t e }
 alike (error (CenteredBinomial eta)) bounds tables t e = record { number = refl; reading = λ n ws. refl }
 
 -- so no number but 21 and 22 tells two calls for a request apart
-same_numbers : (d : Distr) (bounds : List ℕ) (tables : Tables) (n : ℕ) → T (not (isLayered d)) → CallFor d bounds tables
-    → first_of (signedNumbers d tables n) ≡ first_of (signedNumbers d (lending bounds) n)
+same_numbers : (d : Distr) (bounds : List ℕ) (tables : Tables) (n : ℕ) → T (not (is_layered d)) → CallFor d bounds tables
+    → first_of (signed_numbers d tables n) ≡ first_of (signed_numbers d (lending bounds) n)
 same_numbers d bounds tables n t e =
-    ap (λ (k : ℕ). first_of (tooLong n ∷ lengthNumber d n ∷ k ∷ [])) (alike d bounds tables t e).number
+    ap (λ (k : ℕ). first_of (too_long n ∷ length_number d n ∷ k ∷ [])) (alike d bounds tables t e).number
 
 -- ---- accepted by every call that meets the contract: neither its length nor its table is refused
 
@@ -103,70 +103,70 @@ unfolding judged
 refused zero place out given h = omega arith
 refused (suc k) place out given h = rw (eqb-suc-zero k)
 
-no-refusal : (k : ℕ) (place : ℕ) (out : List ℤ) (given : Outcome ℤ) → Apart k
+no_refusal : (k : ℕ) (place : ℕ) (out : List ℤ) (given : Outcome ℤ) → Apart k
     → (((judged k place out given).number ≡ 0) ⊎ ((judged k place out given).number ≡ 22) ⊎ ((judged k place out given).number ≡ 23)) → k ≡ 0
-no-refusal zero place out given h a = refl
-no-refusal (suc k) place out given h a =
+no_refusal zero place out given h a = refl
+no_refusal (suc k) place out given h a =
     let e : (judged (suc k) place out given).number ≡ suc k = refused (suc k) place out given (omega arith) in
     ⊎_elim (λ z. omega arith) (λ b. ⊎_elim (λ z. absurd (h.0 (sym e ∙ z))) (λ z. absurd (h.1 (sym e ∙ z))) b) a
 
 -- the numbers of a call on no words: 21 for a sampler that is not made, else those of the request
 numbers_of : Bool → Distr → Tables → ℕ → ℕ
-numbers_of made d tables n = first_of (stateNumbers made 0 0 ++ signedNumbers d tables n)
+numbers_of made d tables n = first_of (state_numbers made 0 0 ++ signed_numbers d tables n)
 
 numbers_apart : (made : Bool) (d : Distr) (tables : Tables) (n : ℕ) → Apart (numbers_of made d tables n)
 unfolding numbers_of first_of
-numbers_apart true d tables n = signed-apart d tables n
+numbers_apart true d tables n = signed_apart d tables n
 numbers_apart false d tables n = below_apart (omega arith)
 
-numbers-zero : (made : Bool) (d : Distr) (tables : Tables) (n : ℕ) → numbers_of made d tables n ≡ 0 → T made × (first_of (signedNumbers d tables n) ≡ 0)
+numbers-zero : (made : Bool) (d : Distr) (tables : Tables) (n : ℕ) → numbers_of made d tables n ≡ 0 → T made × (first_of (signed_numbers d tables n) ≡ 0)
 unfolding numbers_of first_of
 numbers-zero true d tables n e = (tt, e)
 numbers-zero false d tables n e = omega arith
 
 -- a sampler that is made and a good place pass 21 and 22
-state-zero : (made : Bool) (wordCount place : ℕ) (ns : List ℕ) → T made → place ≤ wordCount → first_of (stateNumbers made wordCount place ++ ns) ≡ first_of ns
+state_zero : (made : Bool) (word_count place : ℕ) (ns : List ℕ) → T made → place ≤ word_count → first_of (state_numbers made word_count place ++ ns) ≡ first_of ns
 unfolding first_of
-state-zero true wordCount place ns t h = rw (le-ltb wordCount place h)
-state-zero false wordCount place ns t h = absurd t
+state_zero true word_count place ns t h = rw (le-ltb word_count place h)
+state_zero false word_count place ns t h = absurd t
 
-judged-settled : (k place wordCount n : ℕ) (out : List ℤ) (given : Read (List ℤ)) (cs : List ℤ) (rest : List ℕ) → k ≡ 0 → given ≡ got cs rest
-    → judged k place out (settled (λ x. x) wordCount place n given) ≡ record { number = 0; place = wordCount - length rest; index = 0; output = cs }
+judged-settled : (k place word_count n : ℕ) (out : List ℤ) (given : Read (List ℤ)) (cs : List ℤ) (rest : List ℕ) → k ≡ 0 → given ≡ got cs rest
+    → judged k place out (settled (λ x. x) word_count place n given) ≡ record { number = 0; place = word_count - length rest; index = 0; output = cs }
 unfolding judged settled
-judged-settled k place wordCount n out given cs rest e f = rw (e, f)
+judged-settled k place word_count n out given cs rest e f = rw (e, f)
 
-module _ (made : Bool) (d : Distr) (n : ℕ) (bounds : List ℕ) (is_made : T made → makingNumber d ≡ 0) (ok : Accepted made d n bounds) where
+module _ (made : Bool) (d : Distr) (n : ℕ) (bounds : List ℕ) (is_made : T made → making_number d ≡ 0) (ok : Accepted made d n bounds) where
   ρ : Rule
   ρ = rule d n bounds
 
   -- the request passes 21, 6, 7 or 8, and 12
-  passes : T made × (first_of (signedNumbers d (lending bounds) n) ≡ 0)
-  unfolding numbers_of signedDraw
+  passes : T made × (first_of (signed_numbers d (lending bounds) n) ≡ 0)
+  unfolding numbers_of signed_draw
   passes =
       let out = replicate n (pos 0) in
       let same_length : length out ≡ n = length-replicate n (pos 0) in
-      let answer = ok.every_call (lending bounds) [] 0 out (signedDraw made d (lending bounds) [] 0 out) (either d bounds) same_length refl in
+      let answer = ok.every_call (lending bounds) [] 0 out (signed_draw made d (lending bounds) [] 0 out) (either d bounds) same_length refl in
       numbers-zero made d (lending bounds) n
       (subst (λ (m : ℕ). numbers_of made d (lending bounds) m ≡ 0) same_length
-      (no-refusal (numbers_of made d (lending bounds) (length out)) 0 out _ (numbers_apart made d (lending bounds) (length out)) answer))
+      (no_refusal (numbers_of made d (lending bounds) (length out)) 0 out _ (numbers_apart made d (lending bounds) (length out)) answer))
 
   all-counted : Counted ρ (inside d n) (formula d n bounds)
   unfolding ρ
-  all-counted = requests-counted d n (lending bounds) (what-passed d n (lending bounds) (is_made passes.0) ok.not-layered passes.1)
+  all-counted = requests_counted d n (lending bounds) (what_passed d n (lending bounds) (is_made passes.0) ok.not-layered passes.1)
 
   -- a call on words that carry a draw list answers 0, the place where the rules stop, and what the draw list decodes to
   answered : (tables : Tables) (words : List ℕ) (place : ℕ) (ds rest : List ℕ) (out : List ℤ)
       → CallFor d bounds tables → Carries ρ words place ds rest → length out ≡ n
-      → signedDraw made d tables words place out ≡ record { number = 0; place = length words - length rest; index = 0; output = ρ.decode ds }
-  unfolding signedDraw layerIndex ρ mapRead
+      → signed_draw made d tables words place out ≡ record { number = 0; place = length words - length rest; index = 0; output = ρ.decode ds }
+  unfolding signed_draw layer_index ρ map_read
   answered tables words place ds rest out f c e =
-      ap (naming (tableIndex d tables))
-      (judged-settled (first_of (stateNumbers made (length words) place ++ signedNumbers d tables (length out))) place (length words) (length out) out
+      ap (naming (table_index d tables))
+      (judged-settled (first_of (state_numbers made (length words) place ++ signed_numbers d tables (length out))) place (length words) (length out) out
       (coefficients d (length out) tables (drop place words)) (ρ.decode ds) rest
-      (state-zero made (length words) place (signedNumbers d tables (length out)) passes.0 c.good-place
-      ∙ ap (λ (m : ℕ). first_of (signedNumbers d tables m)) e ∙ same_numbers d bounds tables n ok.not-layered f ∙ passes.1)
+      (state_zero made (length words) place (signed_numbers d tables (length out)) passes.0 c.good-place
+      ∙ ap (λ (m : ℕ). first_of (signed_numbers d tables m)) e ∙ same_numbers d bounds tables n ok.not-layered f ∙ passes.1)
       (ap (λ (m : ℕ). coefficients d m tables (drop place words)) e
-      ∙ (alike d bounds tables ok.not-layered f).reading n (drop place words) ∙ ap (mapRead ρ.decode) c.reads))
+      ∙ (alike d bounds tables ok.not-layered f).reading n (drop place words) ∙ ap (map_read ρ.decode) c.reads))
 
   -- a draw list reaches what it decodes to
   reaches : (ds : List ℕ) → DrawList d n bounds ds → Reaches made d n bounds ds (ρ.decode ds)
@@ -184,44 +184,44 @@ module _ (made : Bool) (d : Distr) (n : ℕ) (bounds : List ℕ) (is_made : T ma
               subst (λ (p : ℕ). drop p words ≡ rest) at stop.1,
               ap (λ (x : Outcome ℤ). x.output) done,
             );
-        rules-give = refl;
+        rules_give = refl;
       }
 
   -- demand 3 for the request
-  pub demand-3 : Demand3 made d n bounds
+  pub demand_3 : Demand3 made d n bounds
   unfolding ρ
-  demand-3 = record {
+  demand_3 = record {
     exactly = λ cs.
-        exactly-as (all-counted.exactly cs)
+        exactly_as (all-counted.exactly cs)
         (λ ds p. (p.0, subst (λ (x : List ℤ). Reaches made d n bounds ds x) p.1 (reaches ds p.0)))
-        (λ ds p. (p.0, p.1.rules-give));
+        (λ ds p. (p.0, p.1.rules_give));
     carried = λ ds b. let w = all-counted.carried ds b in (w.0, 0, w.1, w.2);
-    nothing-else = all-counted.boxed;
+    nothing_else = all-counted.boxed;
   }
 
 -- ---- a request that neither making nor its length nor its table refuses is accepted
 
-settled-number : (wordCount place n : ℕ) (given : Read (List ℤ))
-    → ((settled (λ x. x) wordCount place n given).number ≡ 0) ⊎ ((settled (λ x. x) wordCount place n given).number ≡ 22) ⊎ ((settled (λ x. x) wordCount place n given).number ≡ 23)
+settled-number : (word_count place n : ℕ) (given : Read (List ℤ))
+    → ((settled (λ x. x) word_count place n given).number ≡ 0) ⊎ ((settled (λ x. x) word_count place n given).number ≡ 22) ⊎ ((settled (λ x. x) word_count place n given).number ≡ 23)
 unfolding settled
-settled-number wordCount place n (got cs rest) = inl refl
-settled-number wordCount place n short = inr (inr refl)
+settled-number word_count place n (got cs rest) = inl refl
+settled-number word_count place n short = inr (inr refl)
 
-answer-number : (past : Bool) (ns : List ℕ) (place wordCount n : ℕ) (out : List ℤ) (given : Read (List ℤ)) → first_of ns ≡ 0
-    → let o = judged (first_of (refuse past 22 ∷ ns)) place out (settled (λ x. x) wordCount place n given) in
+answer-number : (past : Bool) (ns : List ℕ) (place word_count n : ℕ) (out : List ℤ) (given : Read (List ℤ)) → first_of ns ≡ 0
+    → let o = judged (first_of (refuse past 22 ∷ ns)) place out (settled (λ x. x) word_count place n given) in
     (o.number ≡ 0) ⊎ (o.number ≡ 22) ⊎ (o.number ≡ 23)
 unfolding judged first_of
-answer-number true ns place wordCount n out given e = inr (inl refl)
-answer-number false ns place wordCount n out given e = rw e (settled-number wordCount place n given)
+answer-number true ns place word_count n out given e = inr (inl refl)
+answer-number false ns place word_count n out given e = rw e (settled-number word_count place n given)
 
-pub accepted : (d : Distr) (n : ℕ) (tables : Tables) → first_of (signedNumbers d tables n) ≡ 0 → T (not (isLayered d)) → Accepted true d n tables.bounds
-unfolding signedDraw first_of
-accepted d n tables z no-layers = record {
-  not-layered = no-layers;
+pub accepted : (d : Distr) (n : ℕ) (tables : Tables) → first_of (signed_numbers d tables n) ≡ 0 → T (not (is_layered d)) → Accepted true d n tables.bounds
+unfolding signed_draw first_of
+accepted d n tables z no_layers = record {
+  not-layered = no_layers;
   every_call = λ lent words place out o f e m.
       subst (λ (x : Outcome ℤ). (x.number ≡ 0) ⊎ (x.number ≡ 22) ⊎ (x.number ≡ 23)) (sym m)
-      (answer-number (ltb (length words) place) (signedNumbers d lent (length out)) place (length words) (length out) out
+      (answer-number (ltb (length words) place) (signed_numbers d lent (length out)) place (length words) (length out) out
       (coefficients d (length out) lent (drop place words))
-      (ap (λ (k : ℕ). first_of (signedNumbers d lent k)) e ∙ same_numbers d tables.bounds lent n no-layers f
-      ∙ sym (same_numbers d tables.bounds tables n no-layers (either d tables.bounds)) ∙ z));
+      (ap (λ (k : ℕ). first_of (signed_numbers d lent k)) e ∙ same_numbers d tables.bounds lent n no_layers f
+      ∙ sym (same_numbers d tables.bounds tables n no_layers (either d tables.bounds)) ∙ z));
 }

@@ -8,22 +8,22 @@ use Rattle.distr.specs.declared.secret_key_distr.SecretKeyDistr.TheVariants.{Fix
 use Rattle.distr.specs.declared.error_distribution.ErrorDistribution.{ErrorDistribution}
 use Rattle.distr.specs.Contract.{Contract}
 use Rattle.distr.specs.Words.{got, choose}
-use Rattle.distr.specs.Distribution.{Distr, secret, error, Tables, onDeviation, isLayered, rule}
-use Rattle.distr.specs.Making.{makingNumber}
-use Rattle.distr.specs.Numbers.{first_of, signedNumbers}
+use Rattle.distr.specs.Distribution.{Distr, secret, error, Tables, on_deviation, is_layered, rule}
+use Rattle.distr.specs.Making.{making_number}
+use Rattle.distr.specs.Numbers.{first_of, signed_numbers}
 use Rattle.distr.specs.Draw.{Outcome, Meets}
-use Rattle.counts.specs.DrawLists.{inBox, Carries, Exactly}
+use Rattle.counts.specs.DrawLists.{in_box, Carries, Exactly}
 use Rattle.counts.specs.Inside.{inside}
 use Rattle.counts.specs.Formula.{formula}
 use Rattle.words.specs.declared.Taken.{Taken}
 use Rattle.words.proofs.uniform_below.Reads as uniform-below
 use Rattle.poly_cbd.proofs.sample_poly_cbd.Reads as sample-poly-cbd
 use Rattle.secret_key_sampler.specs.declared.SecretKeySampler.{SecretKeySampler}
-use Rattle.secret_key_sampler.specs.Sampler.{isMade, making}
+use Rattle.secret_key_sampler.specs.Sampler.{is_made, making}
 use Rattle.secret_key_sampler.proofs.SecretKeySampler.try_new.Reads as secret-key-try-new
 use Rattle.secret_key_sampler.proofs.SecretKeySampler.sample_signed_to.Reads as secret-key-sample-signed-to
 use Rattle.error_sampler.specs.declared.ErrorSampler.{ErrorSampler}
-use Rattle.error_sampler.specs.Sampler.{isMade as isMadeError, making as makingError}
+use Rattle.error_sampler.specs.Sampler.{is_made as is_made_error, making as making_error}
 use Rattle.error_sampler.proofs.ErrorSampler.try_new.Reads as error-try-new
 use Rattle.error_sampler.proofs.ErrorSampler.sample_signed_to.Reads as error-sample-signed-to
 use Rattle.certificate.specs.Polynomials.{PolynomialsCounted}
@@ -34,19 +34,19 @@ use Rattle.certificate.specs.Contracts.{SignedArguments, SignedCall, ChoiceArgum
 -- "A request is a sampler of any distribution but the layered Gaussian, a length n, and the table if one is used." A Gaussian uses the bounds, another
 -- distribution no table: a call is for the request if a Gaussian is lent these bounds, whatever else is lent, and any call is where d is no Gaussian.
 abbrev pub CallFor : Distr → List ℕ → Tables → Type 0
-CallFor d bounds tables = onDeviation d (λ deviation. tables.bounds) bounds ≡ bounds
+CallFor d bounds tables = on_deviation d (λ deviation. tables.bounds) bounds ≡ bounds
 
 -- "It is accepted if only 22 and 23 can still refuse its signed draw." `made` says whether making gives the sampler, d is its distribution;
 -- `Meets` says what a call does.
 pub record Accepted (made : Bool) (d : Distr) (n : ℕ) (bounds : List ℕ) : Type 0 where
-  pub not-layered : T (not (isLayered d))
+  pub not-layered : T (not (is_layered d))
   pub every_call : (tables : Tables) (words : List ℕ) (place : ℕ) (out : List ℤ) (o : Outcome ℤ)
       → CallFor d bounds tables → length out ≡ n → Meets made d tables words place out o
       → (o.number ≡ 0) ⊎ (o.number ≡ 22) ⊎ (o.number ≡ 23)
 
 -- The request's draw lists.
 abbrev pub DrawList : Distr → ℕ → List ℕ → List ℕ → Type 0
-DrawList d n bounds ds = T (inBox (rule d n bounds).ranges ds)
+DrawList d n bounds ds = T (in_box (rule d n bounds).ranges ds)
 
 -- "The draw list reaches a coefficient list if some words carry it and every call of a `sample_signed_to` for the request, on any words and place that
 -- carry it and into any output of length n, gives 0 and the place where the rules stop, and writes that list, the one the rules give."
@@ -55,7 +55,7 @@ pub record Reaches (made : Bool) (d : Distr) (n : ℕ) (bounds ds : List ℕ) (c
   pub every_call : (tables : Tables) (words : List ℕ) (place : ℕ) (rest : List ℕ) (out : List ℤ) (o : Outcome ℤ)
       → CallFor d bounds tables → Carries (rule d n bounds) words place ds rest → length out ≡ n → Meets made d tables words place out o
       → (o.number ≡ 0) × (o.place ≤ length words) × (drop o.place words ≡ rest) × (o.output ≡ cs)
-  pub rules-give : (rule d n bounds).decode ds ≡ cs
+  pub rules_give : (rule d n bounds).decode ds ≡ cs
 
 -- A draw list of the request that reaches cs.
 abbrev pub Reaching : Bool → Distr → ℕ → List ℕ → List ℤ → List ℕ → Type 0
@@ -71,18 +71,18 @@ pub record Demand3 (made : Bool) (d : Distr) (n : ℕ) (bounds : List ℕ) : Typ
   -- "For every draw list there are words that carry it."
   pub carried : (ds : List ℕ) → DrawList d n bounds ds → (words : List ℕ) × (place : ℕ) × (rest : List ℕ) × Carries (rule d n bounds) words place ds rest
   -- And words carry nothing but draw lists of the request.
-  pub nothing-else : (words : List ℕ) (place : ℕ) (ds rest : List ℕ) → Carries (rule d n bounds) words place ds rest → DrawList d n bounds ds
+  pub nothing_else : (words : List ℕ) (place : ℕ) (ds rest : List ℕ) → Carries (rule d n bounds) words place ds rest → DrawList d n bounds ds
 
--- Demand 3 for a sampler S of the distributions D: `distr` is a sampler's distribution, `isMade` says whether making gives the sampler, and `Made d s`
+-- Demand 3 for a sampler S of the distributions D: `distr` is a sampler's distribution, `is_made` says whether making gives the sampler, and `Made d s`
 -- that making d gives number 0 and the sampler s.
-pub record ForSampler (S D : Type 0) (kind : D → Distr) (distr : S → D) (isMade : S → Bool) (Made : D → S → Type 0) : Type 0 where
+pub record ForSampler (S D : Type 0) (kind : D → Distr) (distr : S → D) (is_made : S → Bool) (Made : D → S → Type 0) : Type 0 where
   -- "Take any accepted request for signed output by any distribution but the layered Gaussian."
-  pub every-request : (s : S) (n : ℕ) (bounds : List ℕ)
-      → Accepted (isMade s) (kind (distr s)) n bounds → Demand3 (isMade s) (kind (distr s)) n bounds
+  pub every_request : (s : S) (n : ℕ) (bounds : List ℕ)
+      → Accepted (is_made s) (kind (distr s)) n bounds → Demand3 (is_made s) (kind (distr s)) n bounds
   -- There are such requests: wherever the distribution is not the layered Gaussian and neither making it nor the length nor the table is refused.
-  pub requests-exist : (d : D) (n : ℕ) (tables : Tables)
-      → makingNumber (kind d) ≡ 0 → first_of (signedNumbers (kind d) tables n) ≡ 0 → T (not (isLayered (kind d)))
-      → (s : S) × Made d s × Accepted (isMade s) (kind (distr s)) n tables.bounds × Demand3 (isMade s) (kind (distr s)) n tables.bounds
+  pub requests_exist : (d : D) (n : ℕ) (tables : Tables)
+      → making_number (kind d) ≡ 0 → first_of (signed_numbers (kind d) tables n) ≡ 0 → T (not (is_layered (kind d)))
+      → (s : S) × Made d s × Accepted (is_made s) (kind (distr s)) n tables.bounds × Demand3 (is_made s) (kind (distr s)) n tables.bounds
 
 -- In a choice among k the word w gives r, whatever words follow.
 abbrev pub Gives : ℕ → ℕ → ℕ → Type 0
@@ -100,28 +100,28 @@ pub record FairChoice (k : ℕ) : Type 0 where
 -- ---- demand 3, and that it is about this code
 
 pub record Certificate : Type 1 where
-  pub secret-keys : ForSampler SecretKeySampler SecretKeyDistr secret (λ s. s.distr) isMade (λ d s. making d ≡ record { number = 0; sampler = s })
-  pub errors : ForSampler ErrorSampler ErrorDistribution error (λ s. s.distribution) isMadeError (λ d s. makingError d ≡ record { number = 0; sampler = s })
+  pub secret_keys : ForSampler SecretKeySampler SecretKeyDistr secret (λ s. s.distr) is_made (λ d s. making d ≡ record { number = 0; sampler = s })
+  pub errors : ForSampler ErrorSampler ErrorDistribution error (λ s. s.distribution) is_made_error (λ d s. making_error d ≡ record { number = 0; sampler = s })
   -- "So any two keys of one fixed composition are reached by equally many draw lists."
   pub compositions : (s : SecretKeySampler) (minus ones n : ℕ) (bounds : List ℕ) (cs cs' : List ℤ)
       → let d = FixedCompositionTernary minus ones in
-      s.distr ≡ d → Accepted (isMade s) (secret d) n bounds → T (inside (secret d) n cs) → T (inside (secret d) n cs')
-      → (N : ℕ) × Exactly (List ℕ) N (Reaching (isMade s) (secret d) n bounds cs) × Exactly (List ℕ) N (Reaching (isMade s) (secret d) n bounds cs')
+      s.distr ≡ d → Accepted (is_made s) (secret d) n bounds → T (inside (secret d) n cs) → T (inside (secret d) n cs')
+      → (N : ℕ) × Exactly (List ℕ) N (Reaching (is_made s) (secret d) n bounds cs) × Exactly (List ℕ) N (Reaching (is_made s) (secret d) n bounds cs')
   -- "And for every k from 1 to 2^32, a bounded choice among k values gives each of them …"
   pub choices : (k : ℕ) → 1 ≤ k → k ≤ 2 ^ 32 → FairChoice k
   -- 02 [3]: "A polynomial with centered coefficients v is reached by the product of C(2eta, eta+v) byte strings", of eta 2 and 3.
   pub polynomials : (eta : ℕ) → (eta ≡ 2) ⊎ (eta ≡ 3) → PolynomialsCounted eta
   -- the signed draws
-  pub secret-key-draws : Contract 6 (SignedArguments SecretKeySampler) Answer (SignedCall isMade (λ s. secret s.distr))
+  pub secret_key_draws : Contract 6 (SignedArguments SecretKeySampler) Answer (SignedCall is_made (λ s. secret s.distr))
       secret-key-sample-signed-to.Pre secret-key-sample-signed-to.Post
-  pub error-draws : Contract 6 (SignedArguments ErrorSampler) Answer (SignedCall isMadeError (λ s. error s.distribution))
+  pub error-draws : Contract 6 (SignedArguments ErrorSampler) Answer (SignedCall is_made_error (λ s. error s.distribution))
       error-sample-signed-to.Pre error-sample-signed-to.Post
   -- making
-  pub secret-key-making : Contract 0 (SecretKeyDistr × Unit {0}) _ (λ before answer after. answer ≡ making before.0)
+  pub secret_key_making : Contract 0 (SecretKeyDistr × Unit {0}) _ (λ before answer after. answer ≡ making before.0)
       secret-key-try-new.Pre secret-key-try-new.Post
-  pub error-making : Contract 0 (ErrorDistribution × Unit {0}) _ (λ before answer after. answer ≡ makingError before.0)
+  pub error-making : Contract 0 (ErrorDistribution × Unit {0}) _ (λ before answer after. answer ≡ making_error before.0)
       error-try-new.Pre error-try-new.Post
   -- the bounded choice
-  pub bounded-choice : Contract 1 ChoiceArguments Taken BoundedChoice uniform-below.Pre uniform-below.Post
+  pub bounded_choice : Contract 1 ChoiceArguments Taken BoundedChoice uniform-below.Pre uniform-below.Post
   -- the byte form
-  pub polynomial-draws : Contract 2 CbdArguments ℕ CbdCall sample-poly-cbd.Pre sample-poly-cbd.Post
+  pub polynomial_draws : Contract 2 CbdArguments ℕ CbdCall sample-poly-cbd.Pre sample-poly-cbd.Post

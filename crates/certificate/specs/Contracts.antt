@@ -3,9 +3,9 @@ use Rattle.std.specs.Prelude.{ℕ, ◌≡◌, Bool, List, length, drop, ℤ, Flo
 use Rattle.std.specs.Borrow.{Bor}
 use Rattle.distr.specs.declared.answer.Answer.{Answer}
 use Rattle.distr.specs.Words.{choose}
-use Rattle.distr.specs.Skipped.{passedOver}
+use Rattle.distr.specs.Skipped.{passed_over}
 use Rattle.distr.specs.Answers.{sums, reported}
-use Rattle.distr.specs.Distribution.{Distr, skipsOf}
+use Rattle.distr.specs.Distribution.{Distr, skips_of}
 use Rattle.distr.specs.Draw.{outcome, Meets}
 use Rattle.words.specs.declared.Taken.{Taken}
 use Rattle.words.specs.Reading.{taken}
@@ -19,10 +19,10 @@ SignedArguments S =
 
 -- Its promise: what the call does is what `Meets` says, and the sums that it reports are those of 02 [1].
 abbrev pub SignedCall : {S : Type 0} → (S → Bool) → (S → Distr) → SignedArguments S → Answer → SignedArguments S → Type 0
-SignedCall isMade distr (self, (output, (bounds, (endpoints, (heights, (curve, (words, (place, end)))))))) answer (_, (written, _)) =
+SignedCall is_made distr (self, (output, (bounds, (endpoints, (heights, (curve, (words, (place, end)))))))) answer (_, (written, _)) =
     let tables = lent bounds.now endpoints.now heights.now curve.now in
-    Meets (isMade self) (distr self) tables words.now place output.now (outcome answer written.now)
-    × (sums answer ≡ reported answer.number (skipsOf (distr self) (length output.now) tables (drop place words.now)))
+    Meets (is_made self) (distr self) tables words.now place output.now (outcome answer written.now)
+    × (sums answer ≡ reported answer.number (skips_of (distr self) (length output.now) tables (drop place words.now)))
 
 -- The arguments of a bounded choice: words, place, k. Its promise: the value and the place of `choose`, and the words that it passed over.
 abbrev pub ChoiceArguments : Type 0
@@ -30,7 +30,7 @@ ChoiceArguments = Bor (List ℕ) × (ℕ × (ℕ × Unit {0}))
 
 abbrev pub BoundedChoice : ChoiceArguments → Taken → ChoiceArguments → Type 0
 BoundedChoice (words, (place, (k, end))) answer after =
-    answer ≡ taken (length words.now) (passedOver k (drop place words.now)) (choose k (drop place words.now))
+    answer ≡ taken (length words.now) (passed_over k (drop place words.now)) (choose k (drop place words.now))
 
 -- The arguments of `sample_poly_cbd`: output, eta, bytes. Its promise is what `MeetsCbd` says.
 abbrev pub CbdArguments : Type 0

@@ -2,8 +2,8 @@
 // Uniform ternary by division, beside the draw by the table of trits below (02 [5]).
 ghost use Rattle.std.specs.Prelude.{◌≡◌, length, drop};
 ghost use Rattle.distr.specs.declared.secret_key_distr.SecretKeyDistr.TheVariants.{UniformBinary, Binary, SparseTernary, UniformTernary, Ternary, FixedHammingWeightBinary, BlockBinary, FixedHammingWeightTernary, FixedCompositionTernary};
-ghost use Rattle.distr.specs.Distribution.{secret, skipsOf};
-ghost use Rattle.distr.specs.Draw.{outcome, encodedAtOnce, noTables};
+ghost use Rattle.distr.specs.Distribution.{secret, skips_of};
+ghost use Rattle.distr.specs.Draw.{outcome, encoded_at_once, no_tables};
 ghost use Rattle.distr.specs.Answers.{sums, reported};
 
 pub use by_division::residues::sample_uniform_ternary_values_by_division_to;
@@ -21,8 +21,8 @@ fn sample_at_once(
     words: &[u32],
     place: usize,
 ) -> Answer
-    ensures output_after { outcome result output.new ≡ encodedAtOnce (secret distr) modulus words.now place output.old }
-    ensures result_value { sums result ≡ reported result.number (skipsOf (secret distr) (length output.old) noTables (drop place words.now)) }
+    ensures output_after { outcome result output.new ≡ encoded_at_once (secret distr) modulus words.now place output.old }
+    ensures result_value { sums result ≡ reported result.number (skips_of (secret distr) (length output.old) no_tables (drop place words.now)) }
 {
     let prepared = prepare(distr);
     let by = ResidueMethod { prepared, modulus };
@@ -36,8 +36,8 @@ pub fn sample_uniform_binary_values_to(
     words: &[u32],
     place: usize,
 ) -> Answer
-    ensures output_after { outcome result output.new ≡ encodedAtOnce (secret UniformBinary) modulus words.now place output.old }
-    ensures result_value { sums result ≡ reported result.number (skipsOf (secret UniformBinary) (length output.old) noTables (drop place words.now)) }
+    ensures output_after { outcome result output.new ≡ encoded_at_once (secret UniformBinary) modulus words.now place output.old }
+    ensures result_value { sums result ≡ reported result.number (skips_of (secret UniformBinary) (length output.old) no_tables (drop place words.now)) }
 {
     sample_at_once(output, modulus, SecretKeyDistr::UniformBinary, words, place)
 }
@@ -50,8 +50,8 @@ pub fn sample_binary_values_with_probability_to(
     words: &[u32],
     place: usize,
 ) -> Answer
-    ensures output_after { outcome result output.new ≡ encodedAtOnce (secret (Binary one_probability)) modulus words.now place output.old }
-    ensures result_value { sums result ≡ reported result.number (skipsOf (secret (Binary one_probability)) (length output.old) noTables (drop place words.now)) }
+    ensures output_after { outcome result output.new ≡ encoded_at_once (secret (Binary one_probability)) modulus words.now place output.old }
+    ensures result_value { sums result ≡ reported result.number (skips_of (secret (Binary one_probability)) (length output.old) no_tables (drop place words.now)) }
 {
     let distr = SecretKeyDistr::Binary { one_probability };
     sample_at_once(output, modulus, distr, words, place)
@@ -65,8 +65,8 @@ pub fn sample_fixed_hamming_weight_binary_values_to(
     words: &[u32],
     place: usize,
 ) -> Answer
-    ensures output_after { outcome result output.new ≡ encodedAtOnce (secret (FixedHammingWeightBinary hamming_weight)) modulus words.now place output.old }
-    ensures result_value { sums result ≡ reported result.number (skipsOf (secret (FixedHammingWeightBinary hamming_weight)) (length output.old) noTables (drop place words.now)) }
+    ensures output_after { outcome result output.new ≡ encoded_at_once (secret (FixedHammingWeightBinary hamming_weight)) modulus words.now place output.old }
+    ensures result_value { sums result ≡ reported result.number (skips_of (secret (FixedHammingWeightBinary hamming_weight)) (length output.old) no_tables (drop place words.now)) }
 {
     let distr = SecretKeyDistr::FixedHammingWeightBinary { hamming_weight };
     sample_at_once(output, modulus, distr, words, place)
@@ -81,8 +81,8 @@ pub fn sample_block_binary_values_to(
     words: &[u32],
     place: usize,
 ) -> Answer
-    ensures output_after { outcome result output.new ≡ encodedAtOnce (secret (BlockBinary block_size occupancy)) modulus words.now place output.old }
-    ensures result_value { sums result ≡ reported result.number (skipsOf (secret (BlockBinary block_size occupancy)) (length output.old) noTables (drop place words.now)) }
+    ensures output_after { outcome result output.new ≡ encoded_at_once (secret (BlockBinary block_size occupancy)) modulus words.now place output.old }
+    ensures result_value { sums result ≡ reported result.number (skips_of (secret (BlockBinary block_size occupancy)) (length output.old) no_tables (drop place words.now)) }
 {
     let distr = SecretKeyDistr::BlockBinary {
         block_size,
@@ -98,8 +98,8 @@ pub fn sample_sparse_ternary_values_to(
     words: &[u32],
     place: usize,
 ) -> Answer
-    ensures output_after { outcome result output.new ≡ encodedAtOnce (secret SparseTernary) modulus words.now place output.old }
-    ensures result_value { sums result ≡ reported result.number (skipsOf (secret SparseTernary) (length output.old) noTables (drop place words.now)) }
+    ensures output_after { outcome result output.new ≡ encoded_at_once (secret SparseTernary) modulus words.now place output.old }
+    ensures result_value { sums result ≡ reported result.number (skips_of (secret SparseTernary) (length output.old) no_tables (drop place words.now)) }
 {
     sample_at_once(output, modulus, SecretKeyDistr::SparseTernary, words, place)
 }
@@ -111,8 +111,8 @@ pub fn sample_uniform_ternary_values_to(
     words: &[u32],
     place: usize,
 ) -> Answer
-    ensures output_after { outcome result output.new ≡ encodedAtOnce (secret UniformTernary) modulus words.now place output.old }
-    ensures result_value { sums result ≡ reported result.number (skipsOf (secret UniformTernary) (length output.old) noTables (drop place words.now)) }
+    ensures output_after { outcome result output.new ≡ encoded_at_once (secret UniformTernary) modulus words.now place output.old }
+    ensures result_value { sums result ≡ reported result.number (skips_of (secret UniformTernary) (length output.old) no_tables (drop place words.now)) }
 {
     let distr = SecretKeyDistr::UniformTernary;
     sample_at_once(output, modulus, distr, words, place)
@@ -127,8 +127,8 @@ pub fn sample_ternary_values_with_probabilities_to(
     words: &[u32],
     place: usize,
 ) -> Answer
-    ensures output_after { outcome result output.new ≡ encodedAtOnce (secret (Ternary minus_one_probability one_probability)) modulus words.now place output.old }
-    ensures result_value { sums result ≡ reported result.number (skipsOf (secret (Ternary minus_one_probability one_probability)) (length output.old) noTables (drop place words.now)) }
+    ensures output_after { outcome result output.new ≡ encoded_at_once (secret (Ternary minus_one_probability one_probability)) modulus words.now place output.old }
+    ensures result_value { sums result ≡ reported result.number (skips_of (secret (Ternary minus_one_probability one_probability)) (length output.old) no_tables (drop place words.now)) }
 {
     let distr = SecretKeyDistr::Ternary {
         negative_one_probability: minus_one_probability,
@@ -145,8 +145,8 @@ pub fn sample_fixed_hamming_weight_ternary_values_to(
     words: &[u32],
     place: usize,
 ) -> Answer
-    ensures output_after { outcome result output.new ≡ encodedAtOnce (secret (FixedHammingWeightTernary hamming_weight)) modulus words.now place output.old }
-    ensures result_value { sums result ≡ reported result.number (skipsOf (secret (FixedHammingWeightTernary hamming_weight)) (length output.old) noTables (drop place words.now)) }
+    ensures output_after { outcome result output.new ≡ encoded_at_once (secret (FixedHammingWeightTernary hamming_weight)) modulus words.now place output.old }
+    ensures result_value { sums result ≡ reported result.number (skips_of (secret (FixedHammingWeightTernary hamming_weight)) (length output.old) no_tables (drop place words.now)) }
 {
     let distr = SecretKeyDistr::FixedHammingWeightTernary { hamming_weight };
     sample_at_once(output, modulus, distr, words, place)
@@ -161,8 +161,8 @@ pub fn sample_fixed_composition_ternary_values_to(
     words: &[u32],
     place: usize,
 ) -> Answer
-    ensures output_after { outcome result output.new ≡ encodedAtOnce (secret (FixedCompositionTernary minus_one_weight one_weight)) modulus words.now place output.old }
-    ensures result_value { sums result ≡ reported result.number (skipsOf (secret (FixedCompositionTernary minus_one_weight one_weight)) (length output.old) noTables (drop place words.now)) }
+    ensures output_after { outcome result output.new ≡ encoded_at_once (secret (FixedCompositionTernary minus_one_weight one_weight)) modulus words.now place output.old }
+    ensures result_value { sums result ≡ reported result.number (skips_of (secret (FixedCompositionTernary minus_one_weight one_weight)) (length output.old) no_tables (drop place words.now)) }
 {
     let distr = SecretKeyDistr::FixedCompositionTernary {
         negative_one_weight: minus_one_weight,

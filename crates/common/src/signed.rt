@@ -2,8 +2,8 @@
 // Uniform ternary by division, beside the draw by the table of trits below (02 [5]).
 ghost use Rattle.std.specs.Prelude.{◌≡◌, length, drop};
 ghost use Rattle.distr.specs.declared.secret_key_distr.SecretKeyDistr.TheVariants.{UniformBinary, Binary, SparseTernary, UniformTernary, Ternary, FixedHammingWeightBinary, BlockBinary, FixedHammingWeightTernary, FixedCompositionTernary};
-ghost use Rattle.distr.specs.Distribution.{secret, skipsOf};
-ghost use Rattle.distr.specs.Draw.{outcome, signedAtOnce, noTables};
+ghost use Rattle.distr.specs.Distribution.{secret, skips_of};
+ghost use Rattle.distr.specs.Draw.{outcome, signed_at_once, no_tables};
 ghost use Rattle.distr.specs.Answers.{sums, reported};
 
 pub use by_division::signed::sample_uniform_ternary_values_by_division_to;
@@ -15,8 +15,8 @@ use secret_key_method::prepare::prepare;
 // Prepares the method of a distribution for this call alone and draws by it: the number of making, or the draw. No distribution here uses a table, so none
 // is lent.
 fn sample_at_once(output: &mut [i64], distr: SecretKeyDistr, words: &[u32], place: usize) -> Answer
-    ensures output_after { outcome result output.new ≡ signedAtOnce (secret distr) words.now place output.old }
-    ensures result_value { sums result ≡ reported result.number (skipsOf (secret distr) (length output.old) noTables (drop place words.now)) }
+    ensures output_after { outcome result output.new ≡ signed_at_once (secret distr) words.now place output.old }
+    ensures result_value { sums result ≡ reported result.number (skips_of (secret distr) (length output.old) no_tables (drop place words.now)) }
 {
     let by = prepare(distr);
     signed::sample_signed_to(output, by, &[], &[], &[], &[], words, place)
@@ -24,8 +24,8 @@ fn sample_at_once(output: &mut [i64], distr: SecretKeyDistr, words: &[u32], plac
 
 // 0 and 1, each with probability 1/2.
 pub fn sample_uniform_binary_values_to(output: &mut [i64], words: &[u32], place: usize) -> Answer
-    ensures output_after { outcome result output.new ≡ signedAtOnce (secret UniformBinary) words.now place output.old }
-    ensures result_value { sums result ≡ reported result.number (skipsOf (secret UniformBinary) (length output.old) noTables (drop place words.now)) }
+    ensures output_after { outcome result output.new ≡ signed_at_once (secret UniformBinary) words.now place output.old }
+    ensures result_value { sums result ≡ reported result.number (skips_of (secret UniformBinary) (length output.old) no_tables (drop place words.now)) }
 {
     sample_at_once(output, SecretKeyDistr::UniformBinary, words, place)
 }
@@ -37,8 +37,8 @@ pub fn sample_binary_values_with_probability_to(
     words: &[u32],
     place: usize,
 ) -> Answer
-    ensures output_after { outcome result output.new ≡ signedAtOnce (secret (Binary one_probability)) words.now place output.old }
-    ensures result_value { sums result ≡ reported result.number (skipsOf (secret (Binary one_probability)) (length output.old) noTables (drop place words.now)) }
+    ensures output_after { outcome result output.new ≡ signed_at_once (secret (Binary one_probability)) words.now place output.old }
+    ensures result_value { sums result ≡ reported result.number (skips_of (secret (Binary one_probability)) (length output.old) no_tables (drop place words.now)) }
 {
     let distr = SecretKeyDistr::Binary { one_probability };
     sample_at_once(output, distr, words, place)
@@ -51,8 +51,8 @@ pub fn sample_fixed_hamming_weight_binary_values_to(
     words: &[u32],
     place: usize,
 ) -> Answer
-    ensures output_after { outcome result output.new ≡ signedAtOnce (secret (FixedHammingWeightBinary hamming_weight)) words.now place output.old }
-    ensures result_value { sums result ≡ reported result.number (skipsOf (secret (FixedHammingWeightBinary hamming_weight)) (length output.old) noTables (drop place words.now)) }
+    ensures output_after { outcome result output.new ≡ signed_at_once (secret (FixedHammingWeightBinary hamming_weight)) words.now place output.old }
+    ensures result_value { sums result ≡ reported result.number (skips_of (secret (FixedHammingWeightBinary hamming_weight)) (length output.old) no_tables (drop place words.now)) }
 {
     let distr = SecretKeyDistr::FixedHammingWeightBinary { hamming_weight };
     sample_at_once(output, distr, words, place)
@@ -66,8 +66,8 @@ pub fn sample_block_binary_values_to(
     words: &[u32],
     place: usize,
 ) -> Answer
-    ensures output_after { outcome result output.new ≡ signedAtOnce (secret (BlockBinary block_size occupancy)) words.now place output.old }
-    ensures result_value { sums result ≡ reported result.number (skipsOf (secret (BlockBinary block_size occupancy)) (length output.old) noTables (drop place words.now)) }
+    ensures output_after { outcome result output.new ≡ signed_at_once (secret (BlockBinary block_size occupancy)) words.now place output.old }
+    ensures result_value { sums result ≡ reported result.number (skips_of (secret (BlockBinary block_size occupancy)) (length output.old) no_tables (drop place words.now)) }
 {
     let distr = SecretKeyDistr::BlockBinary {
         block_size,
@@ -78,16 +78,16 @@ pub fn sample_block_binary_values_to(
 
 // 0 with probability 1/2, 1 and -1 with 1/4 each.
 pub fn sample_sparse_ternary_values_to(output: &mut [i64], words: &[u32], place: usize) -> Answer
-    ensures output_after { outcome result output.new ≡ signedAtOnce (secret SparseTernary) words.now place output.old }
-    ensures result_value { sums result ≡ reported result.number (skipsOf (secret SparseTernary) (length output.old) noTables (drop place words.now)) }
+    ensures output_after { outcome result output.new ≡ signed_at_once (secret SparseTernary) words.now place output.old }
+    ensures result_value { sums result ≡ reported result.number (skips_of (secret SparseTernary) (length output.old) no_tables (drop place words.now)) }
 {
     sample_at_once(output, SecretKeyDistr::SparseTernary, words, place)
 }
 
 // -1, 0 and 1 with probability 1/3 each.
 pub fn sample_uniform_ternary_values_to(output: &mut [i64], words: &[u32], place: usize) -> Answer
-    ensures output_after { outcome result output.new ≡ signedAtOnce (secret UniformTernary) words.now place output.old }
-    ensures result_value { sums result ≡ reported result.number (skipsOf (secret UniformTernary) (length output.old) noTables (drop place words.now)) }
+    ensures output_after { outcome result output.new ≡ signed_at_once (secret UniformTernary) words.now place output.old }
+    ensures result_value { sums result ≡ reported result.number (skips_of (secret UniformTernary) (length output.old) no_tables (drop place words.now)) }
 {
     sample_at_once(output, SecretKeyDistr::UniformTernary, words, place)
 }
@@ -100,8 +100,8 @@ pub fn sample_ternary_values_with_probabilities_to(
     words: &[u32],
     place: usize,
 ) -> Answer
-    ensures output_after { outcome result output.new ≡ signedAtOnce (secret (Ternary minus_one_probability one_probability)) words.now place output.old }
-    ensures result_value { sums result ≡ reported result.number (skipsOf (secret (Ternary minus_one_probability one_probability)) (length output.old) noTables (drop place words.now)) }
+    ensures output_after { outcome result output.new ≡ signed_at_once (secret (Ternary minus_one_probability one_probability)) words.now place output.old }
+    ensures result_value { sums result ≡ reported result.number (skips_of (secret (Ternary minus_one_probability one_probability)) (length output.old) no_tables (drop place words.now)) }
 {
     let distr = SecretKeyDistr::Ternary {
         negative_one_probability: minus_one_probability,
@@ -117,8 +117,8 @@ pub fn sample_fixed_hamming_weight_ternary_values_to(
     words: &[u32],
     place: usize,
 ) -> Answer
-    ensures output_after { outcome result output.new ≡ signedAtOnce (secret (FixedHammingWeightTernary hamming_weight)) words.now place output.old }
-    ensures result_value { sums result ≡ reported result.number (skipsOf (secret (FixedHammingWeightTernary hamming_weight)) (length output.old) noTables (drop place words.now)) }
+    ensures output_after { outcome result output.new ≡ signed_at_once (secret (FixedHammingWeightTernary hamming_weight)) words.now place output.old }
+    ensures result_value { sums result ≡ reported result.number (skips_of (secret (FixedHammingWeightTernary hamming_weight)) (length output.old) no_tables (drop place words.now)) }
 {
     let distr = SecretKeyDistr::FixedHammingWeightTernary { hamming_weight };
     sample_at_once(output, distr, words, place)
@@ -132,8 +132,8 @@ pub fn sample_fixed_composition_ternary_values_to(
     words: &[u32],
     place: usize,
 ) -> Answer
-    ensures output_after { outcome result output.new ≡ signedAtOnce (secret (FixedCompositionTernary minus_one_weight one_weight)) words.now place output.old }
-    ensures result_value { sums result ≡ reported result.number (skipsOf (secret (FixedCompositionTernary minus_one_weight one_weight)) (length output.old) noTables (drop place words.now)) }
+    ensures output_after { outcome result output.new ≡ signed_at_once (secret (FixedCompositionTernary minus_one_weight one_weight)) words.now place output.old }
+    ensures result_value { sums result ≡ reported result.number (skips_of (secret (FixedCompositionTernary minus_one_weight one_weight)) (length output.old) no_tables (drop place words.now)) }
 {
     let distr = SecretKeyDistr::FixedCompositionTernary {
         negative_one_weight: minus_one_weight,

@@ -12,7 +12,7 @@ use lib.Dec.{T, leb, ltb, eqb, eqb→eq}
 use lib.ListN.{length}
 use lib.Ieee.Fits.{and_l, and_r}
 use lib.IntN.{ℤ, pos, negsuc}
-use Rattle.counts.specs.DrawLists.{inBox}
+use Rattle.counts.specs.DrawLists.{in_box}
 use Rattle.counts.specs.Inside.{same}
 
 -- 1 where a test holds, else 0
@@ -39,30 +39,30 @@ same_list (x ∷ xs) (y ∷ ys) = same x y && same_list xs ys
 
 -- ---- sums
 
-pub sum-ext : (r : ℕ) (f g : ℕ → ℕ) → ((d : ℕ) → d < r → f d ≡ g d) → sum r f ≡ sum r g
+pub sum_ext : (r : ℕ) (f g : ℕ → ℕ) → ((d : ℕ) → d < r → f d ≡ g d) → sum r f ≡ sum r g
 unfolding sum
-sum-ext zero f g h = refl
-sum-ext (suc r) f g h = ap₂ ◌+◌ (sum-ext r f g (λ d k. h d (omega arith))) (h r (omega arith))
+sum_ext zero f g h = refl
+sum_ext (suc r) f g h = ap₂ ◌+◌ (sum_ext r f g (λ d k. h d (omega arith))) (h r (omega arith))
 
 pub sum-zero : (r : ℕ) → sum r (λ d. 0) ≡ 0
 unfolding sum
 sum-zero zero = refl
 sum-zero (suc r) = omega (arith, sum-zero r)
 
-pub sum-const : (r c : ℕ) → sum r (λ d. c) ≡ r * c
+pub sum_const : (r c : ℕ) → sum r (λ d. c) ≡ r * c
 unfolding sum
-sum-const zero c = sym (zero-mul c)
-sum-const (suc r) c = ap (λ (x : ℕ). x + c) (sum-const r c) ∙ sym (suc-mul r c)
+sum_const zero c = sym (zero-mul c)
+sum_const (suc r) c = ap (λ (x : ℕ). x + c) (sum_const r c) ∙ sym (suc-mul r c)
 
 pub sum-add : (r : ℕ) (f g : ℕ → ℕ) → sum r (λ d. f d + g d) ≡ sum r f + sum r g
 unfolding sum
 sum-add zero f g = refl
 sum-add (suc r) f g = omega (arith, sum-add r f g)
 
-pub sum-mul-left : (r c : ℕ) (f : ℕ → ℕ) → sum r (λ d. c * f d) ≡ c * sum r f
+pub sum-mul_left : (r c : ℕ) (f : ℕ → ℕ) → sum r (λ d. c * f d) ≡ c * sum r f
 unfolding sum
-sum-mul-left zero c f = sym (mul-zero c)
-sum-mul-left (suc r) c f = ap (λ (x : ℕ). x + c * f r) (sum-mul-left r c f) ∙ sym (mul-add c (sum r f) (f r))
+sum-mul_left zero c f = sym (mul-zero c)
+sum-mul_left (suc r) c f = ap (λ (x : ℕ). x + c * f r) (sum-mul_left r c f) ∙ sym (mul-add c (sum r f) (f r))
 
 pub sum-mul-right : (r c : ℕ) (f : ℕ → ℕ) → sum r (λ d. f d * c) ≡ sum r f * c
 unfolding sum
@@ -70,25 +70,25 @@ sum-mul-right zero c f = sym (zero-mul c)
 sum-mul-right (suc r) c f = ap (λ (x : ℕ). x + f r * c) (sum-mul-right r c f) ∙ sym (add-mul (sum r f) (f r) c)
 
 -- the first a terms, and the b after them
-pub sum-append : (a b : ℕ) (f : ℕ → ℕ) → sum (a + b) f ≡ sum a f + sum b (λ d. f (a + d))
+pub sum_append : (a b : ℕ) (f : ℕ → ℕ) → sum (a + b) f ≡ sum a f + sum b (λ d. f (a + d))
 unfolding sum
-sum-append a zero f = ap (λ (x : ℕ). sum x f) (add-zero a) ∙ sym (add-zero (sum a f))
-sum-append a (suc b) f =
-    ap (λ (x : ℕ). sum x f) (add-suc a b) ∙ ap (λ (x : ℕ). x + f (a + b)) (sum-append a b f)
+sum_append a zero f = ap (λ (x : ℕ). sum x f) (add-zero a) ∙ sym (add-zero (sum a f))
+sum_append a (suc b) f =
+    ap (λ (x : ℕ). sum x f) (add-suc a b) ∙ ap (λ (x : ℕ). x + f (a + b)) (sum_append a b f)
     ∙ add_assoc (sum a f) (sum b (λ d. f (a + d))) (f (a + b))
 
-pub sum-swap : (a b : ℕ) (f : ℕ → ℕ → ℕ) → sum a (λ i. sum b (λ j. f i j)) ≡ sum b (λ j. sum a (λ i. f i j))
+pub sum_swap : (a b : ℕ) (f : ℕ → ℕ → ℕ) → sum a (λ i. sum b (λ j. f i j)) ≡ sum b (λ j. sum a (λ i. f i j))
 unfolding sum
-sum-swap zero b f = sym (sum-zero b)
-sum-swap (suc a) b f =
-    ap (λ (x : ℕ). x + sum b (f a)) (sum-swap a b f) ∙ sym (sum-add b (λ j. sum a (λ i. f i j)) (f a))
+sum_swap zero b f = sym (sum-zero b)
+sum_swap (suc a) b f =
+    ap (λ (x : ℕ). x + sum b (f a)) (sum_swap a b f) ∙ sym (sum-add b (λ j. sum a (λ i. f i j)) (f a))
 
 -- a sum over a * b numbers as one over the two digits of each
 pub sum-product : (a b : ℕ) (f : ℕ → ℕ) → sum (a * b) f ≡ sum a (λ i. sum b (λ j. f (i * b + j)))
 unfolding sum
 sum-product zero b f = ap (λ (x : ℕ). sum x f) (zero-mul b)
 sum-product (suc a) b f =
-    ap (λ (x : ℕ). sum x f) (suc-mul a b) ∙ sum-append (a * b) b f ∙ ap (λ (x : ℕ). x + sum b (λ j. f (a * b + j))) (sum-product a b f)
+    ap (λ (x : ℕ). sum x f) (suc-mul a b) ∙ sum_append (a * b) b f ∙ ap (λ (x : ℕ). x + sum b (λ j. f (a * b + j))) (sum-product a b f)
 
 -- the first term apart
 pub sum_first : (r : ℕ) (f : ℕ → ℕ) → sum (suc r) f ≡ f 0 + sum r (λ d. f (suc d))
@@ -96,39 +96,39 @@ unfolding sum
 sum_first zero f = omega arith
 sum_first (suc r) f = ap (λ (x : ℕ). x + f (suc r)) (sum_first r f) ∙ add_assoc (f 0) (sum r (λ d. f (suc d))) (f (suc r))
 
-pub sum-reverse : (r : ℕ) (f : ℕ → ℕ) → sum r f ≡ sum r (λ d. f (r - suc d))
+pub sum_reverse : (r : ℕ) (f : ℕ → ℕ) → sum r f ≡ sum r (λ d. f (r - suc d))
 unfolding sum
-sum-reverse zero f = refl
-sum-reverse (suc r) f =
+sum_reverse zero f = refl
+sum_reverse (suc r) f =
     omega (
       arith,
-      sum-reverse r f,
+      sum_reverse r f,
       sum_first r (λ d. f (suc r - suc d)),
       ap f (suc-sub-suc r 0 ∙ sub-zero r),
-      sum-ext r (λ d. f (suc r - suc (suc d))) (λ d. f (r - suc d)) (λ d k. ap f (suc-sub-suc r (suc d))),
+      sum_ext r (λ d. f (suc r - suc (suc d))) (λ d. f (r - suc d)) (λ d k. ap f (suc-sub-suc r (suc d))),
     )
 
 -- the terms of a test for k
-unequal-term : (d k x : ℕ) → (d ≡ k → ⊥) → bit (eqb d k) * x ≡ 0
-unequal-term d k x n = ap (λ (b : Bool). bit b * x) (ne_eqb d k n) ∙ zero-mul x
+unequal_term : (d k x : ℕ) → (d ≡ k → ⊥) → bit (eqb d k) * x ≡ 0
+unequal_term d k x n = ap (λ (b : Bool). bit b * x) (ne_eqb d k n) ∙ zero-mul x
 
-equal-term : (d k x : ℕ) → d ≡ k → bit (eqb d k) * x ≡ x
-equal-term d k x e = ap (λ (b : Bool). bit b * x) (eq-eqb d k e) ∙ one-mul x
+equal_term : (d k x : ℕ) → d ≡ k → bit (eqb d k) * x ≡ x
+equal_term d k x e = ap (λ (b : Bool). bit b * x) (eq-eqb d k e) ∙ one-mul x
 
 -- a k outside has none
-pub sum-none : (r k : ℕ) (f : ℕ → ℕ) → r ≤ k → sum r (λ d. bit (eqb d k) * f d) ≡ 0
-sum-none r k f h =
-    sum-ext r (λ d. bit (eqb d k) * f d) (λ d. 0) (λ d l. unequal-term d k (f d) (omega arith)) ∙ sum-zero r
+pub sum_none : (r k : ℕ) (f : ℕ → ℕ) → r ≤ k → sum r (λ d. bit (eqb d k) * f d) ≡ 0
+sum_none r k f h =
+    sum_ext r (λ d. bit (eqb d k) * f d) (λ d. 0) (λ d l. unequal_term d k (f d) (omega arith)) ∙ sum-zero r
 
 -- the one term at k
-pub sum-single : (r k : ℕ) (f : ℕ → ℕ) → k < r → sum r (λ d. bit (eqb d k) * f d) ≡ f k
+pub sum_single : (r k : ℕ) (f : ℕ → ℕ) → k < r → sum r (λ d. bit (eqb d k) * f d) ≡ f k
 unfolding sum
-sum-single zero k f h = absurd (not-suc-le-zero h)
-sum-single (suc r) k f h = go (λ l. sum-single r k f l) (eq-or-lt_of_le (le_of_suc-le-suc h))
+sum_single zero k f h = absurd (not-suc-le-zero h)
+sum_single (suc r) k f h = go (λ l. sum_single r k f l) (eq-or-lt_of_le (le_of_suc-le-suc h))
   where
     go : (k < r → sum r (λ d. bit (eqb d k) * f d) ≡ f k) → (k ≡ r) ⊎ (k < r) → sum r (λ d. bit (eqb d k) * f d) + bit (eqb r k) * f r ≡ f k
-    go rest (inl e) = omega (arith, sum-none r k f (le_of_eq (sym e)), equal-term r k (f r) (sym e), ap f e)
-    go rest (inr l) = omega (arith, rest l, unequal-term r k (f r) (omega arith))
+    go rest (inl e) = omega (arith, sum_none r k f (le_of_eq (sym e)), equal_term r k (f r) (sym e), ap f e)
+    go rest (inr l) = omega (arith, rest l, unequal_term r k (f r) (omega arith))
 
 -- with no condition on s and t
 between : (r s t : ℕ) → sum r (λ d. bit (leb s d && ltb d t)) ≡ min r t - s
@@ -149,42 +149,42 @@ sum-between r s t h k = between r s t ∙ omega arith
 -- ---- sums over a box
 
 -- a draw in front of a draw list
-pub inBox-cons : (d r : ℕ) (ds rs : List ℕ) → d < r → T (inBox rs ds) → T (inBox (r ∷ rs) (d ∷ ds))
-unfolding inBox
-inBox-cons d r ds rs h t = rw (lt-ltb d r h) t
+pub in_box_cons : (d r : ℕ) (ds rs : List ℕ) → d < r → T (in_box rs ds) → T (in_box (r ∷ rs) (d ∷ ds))
+unfolding in_box
+in_box_cons d r ds rs h t = rw (lt-ltb d r h) t
 
-pub cnt-ext : (rs : List ℕ) (f g : List ℕ → ℕ) → ((ds : List ℕ) → T (inBox rs ds) → f ds ≡ g ds) → cnt rs f ≡ cnt rs g
-unfolding cnt inBox
-cnt-ext [] f g h = h [] tt
-cnt-ext (r ∷ rs) f g h =
-    sum-ext r (λ d. cnt rs (λ ds. f (d ∷ ds))) (λ d. cnt rs (λ ds. g (d ∷ ds)))
-    (λ d k. cnt-ext rs (λ ds. f (d ∷ ds)) (λ ds. g (d ∷ ds)) (λ ds t. h (d ∷ ds) (inBox-cons d r ds rs k t)))
+pub cnt_ext : (rs : List ℕ) (f g : List ℕ → ℕ) → ((ds : List ℕ) → T (in_box rs ds) → f ds ≡ g ds) → cnt rs f ≡ cnt rs g
+unfolding cnt in_box
+cnt_ext [] f g h = h [] tt
+cnt_ext (r ∷ rs) f g h =
+    sum_ext r (λ d. cnt rs (λ ds. f (d ∷ ds))) (λ d. cnt rs (λ ds. g (d ∷ ds)))
+    (λ d k. cnt_ext rs (λ ds. f (d ∷ ds)) (λ ds. g (d ∷ ds)) (λ ds t. h (d ∷ ds) (in_box_cons d r ds rs k t)))
 
 pub cnt-zero : (rs : List ℕ) → cnt rs (λ ds. 0) ≡ 0
 unfolding cnt
 cnt-zero [] = refl
-cnt-zero (r ∷ rs) = sum-ext r (λ d. cnt rs (λ ds. 0)) (λ d. 0) (λ d k. cnt-zero rs) ∙ sum-zero r
+cnt-zero (r ∷ rs) = sum_ext r (λ d. cnt rs (λ ds. 0)) (λ d. 0) (λ d k. cnt-zero rs) ∙ sum-zero r
 
-pub cnt-mul-left : (rs : List ℕ) (c : ℕ) (f : List ℕ → ℕ) → cnt rs (λ ds. c * f ds) ≡ c * cnt rs f
+pub cnt-mul_left : (rs : List ℕ) (c : ℕ) (f : List ℕ → ℕ) → cnt rs (λ ds. c * f ds) ≡ c * cnt rs f
 unfolding cnt
-cnt-mul-left [] c f = refl
-cnt-mul-left (r ∷ rs) c f =
-    sum-ext r (λ d. cnt rs (λ ds. c * f (d ∷ ds))) (λ d. c * cnt rs (λ ds. f (d ∷ ds))) (λ d k. cnt-mul-left rs c (λ ds. f (d ∷ ds)))
-    ∙ sum-mul-left r c (λ d. cnt rs (λ ds. f (d ∷ ds)))
+cnt-mul_left [] c f = refl
+cnt-mul_left (r ∷ rs) c f =
+    sum_ext r (λ d. cnt rs (λ ds. c * f (d ∷ ds))) (λ d. c * cnt rs (λ ds. f (d ∷ ds))) (λ d k. cnt-mul_left rs c (λ ds. f (d ∷ ds)))
+    ∙ sum-mul_left r c (λ d. cnt rs (λ ds. f (d ∷ ds)))
 
-pub cnt-append : (rs ss : List ℕ) (f : List ℕ → ℕ) → cnt (rs ++ ss) f ≡ cnt rs (λ ds. cnt ss (λ es. f (ds ++ es)))
+pub cnt_append : (rs ss : List ℕ) (f : List ℕ → ℕ) → cnt (rs ++ ss) f ≡ cnt rs (λ ds. cnt ss (λ es. f (ds ++ es)))
 unfolding cnt
-cnt-append [] ss f = refl
-cnt-append (r ∷ rs) ss f =
-    sum-ext r (λ d. cnt (rs ++ ss) (λ es. f (d ∷ es))) (λ d. cnt rs (λ ds. cnt ss (λ es. f (d ∷ (ds ++ es)))))
-    (λ d k. cnt-append rs ss (λ es. f (d ∷ es)))
+cnt_append [] ss f = refl
+cnt_append (r ∷ rs) ss f =
+    sum_ext r (λ d. cnt (rs ++ ss) (λ es. f (d ∷ es))) (λ d. cnt rs (λ ds. cnt ss (λ es. f (d ∷ (ds ++ es)))))
+    (λ d k. cnt_append rs ss (λ es. f (d ∷ es)))
 
 -- ---- tests as numbers
 
-pub and-swap : (a b c : Bool) → (a && (b && c)) ≡ (b && (a && c))
-and-swap true b c = refl
-and-swap false true c = refl
-and-swap false false c = refl
+pub and_swap : (a b c : Bool) → (a && (b && c)) ≡ (b && (a && c))
+and_swap true b c = refl
+and_swap false true c = refl
+and_swap false false c = refl
 
 -- two tests that follow from one another
 pub tests_agree : (a b : Bool) → (T a → T b) → (T b → T a) → a ≡ b
@@ -211,24 +211,24 @@ pub same_refl : (x : ℤ) → same x x ≡ true
 same_refl (pos a) = eq-eqb a a refl
 same_refl (negsuc a) = eq-eqb a a refl
 
-pub sameList-eq : (xs ys : List ℤ) → T (same_list xs ys) → xs ≡ ys
+pub same_list_eq : (xs ys : List ℤ) → T (same_list xs ys) → xs ≡ ys
 unfolding same_list
-sameList-eq [] [] t = refl
-sameList-eq [] (y ∷ ys) t = absurd t
-sameList-eq (x ∷ xs) [] t = absurd t
-sameList-eq (x ∷ xs) (y ∷ ys) t =
-    ap₂ ◌∷◌ (same-eq x y (and_l (same x y) (same_list xs ys) t)) (sameList-eq xs ys (and_r (same x y) (same_list xs ys) t))
+same_list_eq [] [] t = refl
+same_list_eq [] (y ∷ ys) t = absurd t
+same_list_eq (x ∷ xs) [] t = absurd t
+same_list_eq (x ∷ xs) (y ∷ ys) t =
+    ap₂ ◌∷◌ (same-eq x y (and_l (same x y) (same_list xs ys) t)) (same_list_eq xs ys (and_r (same x y) (same_list xs ys) t))
 
-pub sameList-refl : (xs : List ℤ) → same_list xs xs ≡ true
+pub same_list_refl : (xs : List ℤ) → same_list xs xs ≡ true
 unfolding same_list
-sameList-refl [] = refl
-sameList-refl (x ∷ xs) = rw (same_refl x) (sameList-refl xs)
+same_list_refl [] = refl
+same_list_refl (x ∷ xs) = rw (same_refl x) (same_list_refl xs)
 
-pub sameList-append : (xs xs' ys ys' : List ℤ) → length xs ≡ length ys
+pub same_list_append : (xs xs' ys ys' : List ℤ) → length xs ≡ length ys
     → same_list (xs ++ xs') (ys ++ ys') ≡ (same_list xs ys && same_list xs' ys')
 unfolding same_list
-sameList-append [] xs' [] ys' h = refl
-sameList-append [] xs' (y ∷ ys) ys' h = absurd (suc-ne-zero (length ys) (sym h))
-sameList-append (x ∷ xs) xs' [] ys' h = absurd (suc-ne-zero (length xs) h)
-sameList-append (x ∷ xs) xs' (y ∷ ys) ys' h =
-    rw (sameList-append xs xs' ys ys' (suc_inj h)) (sym (and_assoc (same x y) (same_list xs ys) (same_list xs' ys')))
+same_list_append [] xs' [] ys' h = refl
+same_list_append [] xs' (y ∷ ys) ys' h = absurd (suc-ne-zero (length ys) (sym h))
+same_list_append (x ∷ xs) xs' [] ys' h = absurd (suc-ne-zero (length xs) h)
+same_list_append (x ∷ xs) xs' (y ∷ ys) ys' h =
+    rw (same_list_append xs xs' ys ys' (suc_inj h)) (sym (and_assoc (same x y) (same_list xs ys) (same_list xs' ys')))

@@ -5,9 +5,9 @@ use Rattle.distr.specs.declared.secret_key_distr.SecretKeyDistr.TheVariants.{Uni
 use Rattle.distr.specs.declared.secret_key_distr.BlockOccupancy.{BlockOccupancy}
 use Rattle.distr.specs.declared.secret_key_distr.BlockOccupancy.TheVariants.{AtMostOne, ExactlyOne}
 use Rattle.distr.specs.declared.error_distribution.ErrorDistribution.TheVariants.{CenteredBinomial, Gaussian as ErrorGaussian}
-use Rattle.distr.specs.Constants.{cbdCoefficients}
-use Rattle.distr.specs.Packed.{minusOne}
-use Rattle.distr.specs.Thresholds.{threshold, nonzeroEnd}
+use Rattle.distr.specs.Constants.{cbd_coefficients}
+use Rattle.distr.specs.Packed.{minus_one}
+use Rattle.distr.specs.Thresholds.{threshold, nonzero_end}
 use Rattle.distr.specs.Gaussian.{support}
 use Rattle.distr.specs.Distribution.{Distr, secret, error}
 
@@ -29,9 +29,9 @@ every ok [] = true
 every ok (c ∷ cs) = ok c && every ok cs
 
 -- 0 or 1.
-abbrev pub isBit : ℤ → Bool
-isBit (pos a) = leb a 1
-isBit (negsuc a) = false
+abbrev pub is_bit : ℤ → Bool
+is_bit (pos a) = leb a 1
+is_bit (negsuc a) = false
 
 -- −m..m.
 abbrev pub within : ℕ → ℤ → Bool
@@ -42,49 +42,49 @@ abbrev pub list_of : ℕ → (ℤ → Bool) → List ℤ → Bool
 list_of n ok cs = eqb (length cs) n && every ok cs
 
 -- The list begins with k blocks of one size, one after the other, each of which passes.
-unfoldable pub everyBlock : ℕ → (List ℤ → Bool) → ℕ → List ℤ → Bool
-everyBlock size ok zero cs = true
-everyBlock size ok (suc k) cs = ok (take size cs) && everyBlock size ok k (drop size cs)
+unfoldable pub every_block : ℕ → (List ℤ → Bool) → ℕ → List ℤ → Bool
+every_block size ok zero cs = true
+every_block size ok (suc k) cs = ok (take size cs) && every_block size ok k (drop size cs)
 
 -- "With exactly one 1, or at most one, in each block": the other coefficients are 0, being 0 or 1.
-abbrev pub blockOk : BlockOccupancy → List ℤ → Bool
-blockOk AtMostOne cs = leb (tally (pos 1) cs) 1
-blockOk ExactlyOne cs = eqb (tally (pos 1) cs) 1
+abbrev pub block_ok : BlockOccupancy → List ℤ → Bool
+block_ok AtMostOne cs = leb (tally (pos 1) cs) 1
+block_ok ExactlyOne cs = eqb (tally (pos 1) cs) 1
 
 -- "The constant alone where `Binary` or `Ternary` gives it without reading."
-abbrev pub insideBinary : ℕ → ℕ → List ℤ → Bool
-insideBinary t n cs = list_of n (cond (eqb t (2 ^ 64)) (same (pos 1)) isBit) cs
+abbrev pub inside_binary : ℕ → ℕ → List ℤ → Bool
+inside_binary t n cs = list_of n (cond (eqb t (2 ^ 64)) (same (pos 1)) is_bit) cs
 
 -- "N = 2^64, E = 0, P = 2^64 are tried in this order and give a constant without reading": −1, 0, 1.
-abbrev pub insideTernary : ℕ → ℕ → ℕ → List ℤ → Bool
-insideTernary N P n cs =
+abbrev pub inside_ternary : ℕ → ℕ → ℕ → List ℤ → Bool
+inside_ternary N P n cs =
     list_of n
-    (cond (eqb N (2 ^ 64)) (same minusOne)
-    (cond (eqb (nonzeroEnd N P) 0) (same (pos 0))
+    (cond (eqb N (2 ^ 64)) (same minus_one)
+    (cond (eqb (nonzero_end N P) 0) (same (pos 0))
     (cond (eqb P (2 ^ 64)) (same (pos 1)) (within 1))))
     cs
 
 -- "Each 0 or 1 in the binary cases, −1..1 in the ternary ones and the composition, −eta..eta or −M..M in the others; with the fixed weights exactly
 -- (a ternary weight is h that are not 0)." A layered Gaussian makes no request, so its entry is never used.
-unfoldable pub insideSecret : SecretKeyDistr → ℕ → List ℤ → Bool
-insideSecret UniformBinary n cs = list_of n isBit cs
-insideSecret (Binary p) n cs = insideBinary (threshold p) n cs
-insideSecret SparseTernary n cs = list_of n (within 1) cs
-insideSecret UniformTernary n cs = list_of n (within 1) cs
-insideSecret (Ternary minus plus) n cs = insideTernary (threshold minus) (threshold plus) n cs
-insideSecret (FixedHammingWeightBinary h) n cs = list_of n isBit cs && eqb (tally (pos 1) cs) h
-insideSecret (BlockBinary size occupancy) n cs = list_of n isBit cs && everyBlock size (blockOk occupancy) (n / size) cs
-insideSecret (FixedHammingWeightTernary h) n cs = list_of n (within 1) cs && eqb (tally (pos 0) cs + h) n
-insideSecret (FixedCompositionTernary minus ones) n cs =
-    list_of n (within 1) cs && eqb (tally minusOne cs) minus && eqb (tally (pos 1) cs) ones
-insideSecret (Gaussian deviation) n cs = list_of n (within (support deviation)) cs
+unfoldable pub inside_secret : SecretKeyDistr → ℕ → List ℤ → Bool
+inside_secret UniformBinary n cs = list_of n is_bit cs
+inside_secret (Binary p) n cs = inside_binary (threshold p) n cs
+inside_secret SparseTernary n cs = list_of n (within 1) cs
+inside_secret UniformTernary n cs = list_of n (within 1) cs
+inside_secret (Ternary minus plus) n cs = inside_ternary (threshold minus) (threshold plus) n cs
+inside_secret (FixedHammingWeightBinary h) n cs = list_of n is_bit cs && eqb (tally (pos 1) cs) h
+inside_secret (BlockBinary size occupancy) n cs = list_of n is_bit cs && every_block size (block_ok occupancy) (n / size) cs
+inside_secret (FixedHammingWeightTernary h) n cs = list_of n (within 1) cs && eqb (tally (pos 0) cs + h) n
+inside_secret (FixedCompositionTernary minus ones) n cs =
+    list_of n (within 1) cs && eqb (tally minus_one cs) minus && eqb (tally (pos 1) cs) ones
+inside_secret (Gaussian deviation) n cs = list_of n (within (support deviation)) cs
 
 -- The list of n coefficients is inside the distribution.
 unfoldable pub inside : Distr → ℕ → List ℤ → Bool
-inside (secret d) n cs = insideSecret d n cs
+inside (secret d) n cs = inside_secret d n cs
 inside (error (ErrorGaussian deviation)) n cs = list_of n (within (support deviation)) cs
 inside (error (CenteredBinomial eta)) n cs = list_of n (within eta) cs
 
 -- 02 [3]: the 256 "centered coefficients" of a polynomial, each −eta..eta.
-abbrev pub insidePolynomial : ℕ → List ℤ → Bool
-insidePolynomial eta vs = list_of cbdCoefficients (within eta) vs
+abbrev pub inside_polynomial : ℕ → List ℤ → Bool
+inside_polynomial eta vs = list_of cbd_coefficients (within eta) vs

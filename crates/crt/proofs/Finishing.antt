@@ -1,25 +1,25 @@
 -- The end of a CRT draw: its cases, and that a last row which the rules settle gives the whole output that they settle.
 use Rattle.std.proofs.Common.{◌≡◌, ℕ, ◌-◌, ◌*◌, ◌<◌, List, map, length, replicate, ℤ, sym, refl, ap, ◌∙◌, le_of_lt, arith, eq-eqb, ne_eqb}
 use Rattle.distr.specs.Words.{Read, got, short}
-use Rattle.distr.specs.Encoding.{encodeWith, rows}
-use Rattle.distr.specs.Numbers.{first_of, moduliNumbers}
+use Rattle.distr.specs.Encoding.{encode_with, rows}
+use Rattle.distr.specs.Numbers.{first_of, moduli_numbers}
 use Rattle.distr.specs.Draw.{Outcome, settled}
 use Rattle.draw_laws.proofs.Bounds.{Within}
-use Rattle.crt.specs.Rows.{lastRow, spreadAt, finishedAt}
+use Rattle.crt.specs.Rows.{last_row, spread_at, finished_at}
 use Rattle.crt.proofs.Moduli.{moduli-above}
 use Rattle.crt.proofs.Residues.{spread-encode, rows-zero}
 
 module _ (half : ℕ) (out : List ℕ) (count : ℕ) (moduli : List ℕ) (number place index : ℕ) {after : List ℕ} where
   -- number 0
-  pub finished-rows : number ≡ 0 → after ≡ spreadAt half out count moduli → ◌≡◌ {A = Outcome ℕ} (record { number = number; place = place; index = index; output = after }) (finishedAt half out count moduli number place index)
+  pub finished-rows : number ≡ 0 → after ≡ spread_at half out count moduli → ◌≡◌ {A = Outcome ℕ} (record { number = number; place = place; index = index; output = after }) (finished_at half out count moduli number place index)
   finished-rows e h = rw (eq-eqb number 0 e, h)
 
   -- number 23
-  pub finished-zeros : number ≡ 23 → after ≡ replicate (length out) 0 → ◌≡◌ {A = Outcome ℕ} (record { number = number; place = place; index = index; output = after }) (finishedAt half out count moduli number place index)
+  pub finished-zeros : number ≡ 23 → after ≡ replicate (length out) 0 → ◌≡◌ {A = Outcome ℕ} (record { number = number; place = place; index = index; output = after }) (finished_at half out count moduli number place index)
   finished-zeros e h = rw (ne_eqb number 0 (λ z. omega arith), eq-eqb number 23 e, h)
 
   -- another number
-  pub finished-kept : (number ≡ 0 → ⊥) → (number ≡ 23 → ⊥) → after ≡ out → ◌≡◌ {A = Outcome ℕ} (record { number = number; place = place; index = index; output = after }) (finishedAt half out count moduli number place index)
+  pub finished-kept : (number ≡ 0 → ⊥) → (number ≡ 23 → ⊥) → after ≡ out → ◌≡◌ {A = Outcome ℕ} (record { number = number; place = place; index = index; output = after }) (finished_at half out count moduli number place index)
   finished-kept e f h = rw (ne_eqb number 0 e, ne_eqb number 23 f, h)
 
 same_outcome : {m n p q i j : ℕ} {a b : List ℕ} → m ≡ n → p ≡ q → i ≡ j → a ≡ b
@@ -29,10 +29,10 @@ same_outcome e f g h = rw (e, f, g, h)
 -- The last row as the rules settle it in native residues: the whole output is as they settle it, in rows of residues, if all
 -- magnitudes are at most a number below the top bit that the moduli were tested against.
 pub finished-settled : (half : ℕ) (out : List ℕ) (count : ℕ) (moduli : List ℕ) (number at index most words place : ℕ) (read : Read (List ℤ))
-    → length out ≡ count * length moduli → most < half → first_of (moduliNumbers most moduli) ≡ 0
+    → length out ≡ count * length moduli → most < half → first_of (moduli_numbers most moduli) ≡ 0
     → ((cs : List ℤ) (rest : List ℕ) → read ≡ got cs rest → Within most cs)
-    → ◌≡◌ {A = Outcome ℕ} (record { number = number; place = at; index = index; output = lastRow out count }) (settled (map (encodeWith (2 * half - 1))) words place count read)
-    → finishedAt half out count moduli number at index ≡ settled (rows moduli) words place count read
+    → ◌≡◌ {A = Outcome ℕ} (record { number = number; place = at; index = index; output = last_row out count }) (settled (map (encode_with (2 * half - 1))) words place count read)
+    → finished_at half out count moduli number at index ≡ settled (rows moduli) words place count read
 unfolding settled
 finished-settled half out count moduli number at index most words place (got cs rest) shape h passed within e =
     let none : number ≡ 0 = ap (λ (o : Outcome ℕ). o.number) e in

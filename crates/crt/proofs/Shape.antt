@@ -4,12 +4,12 @@ use native.Mathlib.Nat.{mul-mod_left, div-eq_of_eq-mul_left}
 use borrow.Author.Tests.{eqb-false}
 
 -- with no rows the length is 0
-pub shape-none : (n count rows : ℕ) → rows ≡ 0 → eqb n 0 ≡ eqb n (count * rows)
-shape-none n count rows e = rw (e, mul-zero count)
+pub shape_none : (n count rows : ℕ) → rows ≡ 0 → eqb n 0 ≡ eqb n (count * rows)
+shape_none n count rows e = rw (e, mul-zero count)
 
 -- else quotient and remainder tell
-pub shape-divided : (n count rows : ℕ) → 0 < rows → (eqb (n / rows) count && eqb (n % rows) 0) ≡ eqb n (count * rows)
-shape-divided n count rows h = go (eqb n (count * rows)) refl
+pub shape_divided : (n count rows : ℕ) → 0 < rows → (eqb (n / rows) count && eqb (n % rows) 0) ≡ eqb n (count * rows)
+shape_divided n count rows h = go (eqb n (count * rows)) refl
   where
     both : (a b : Bool) → eqb (n / rows) count ≡ a → eqb (n % rows) 0 ≡ b → (n ≡ count * rows → ⊥) → (a && b) ≡ false
     both false b p q r = refl

@@ -2,10 +2,10 @@
 // coefficients are drawn once, as native residues (-m is 2^64 - m), into the last row; each row is then made from the last one.
 ghost use Rattle.std.specs.Prelude.{◌≡◌, ◌-◌, ◌*◌, ◌≤◌, ◌∷◌, map, length, drop, ◌==◌};
 ghost use Rattle.std.proofs.Math.Seq.{paste};
-ghost use Rattle.distr.specs.Numbers.{first_of, pastEnd, shapeNumber, tooLong, moduliNumbers};
+ghost use Rattle.distr.specs.Numbers.{first_of, past_end, shape_number, too_long, moduli_numbers};
 ghost use Rattle.distr.specs.Draw.{outcome};
-ghost use Rattle.crt.specs.Rows.{fromNative, spread, finished};
-ghost use Rattle.crt.specs.Parts.{rowRange, IsRow};
+ghost use Rattle.crt.specs.Rows.{from_native, spread, finished};
+ghost use Rattle.crt.specs.Parts.{row_range, IsRow};
 
 use distr::answer::Answer;
 use distr::refusal::{INVALID_CRT_SHAPE, MODULUS_TOO_SMALL, MODULUS_ZERO, OUT_OF_WORDS};
@@ -23,7 +23,7 @@ fn has_shape(n: usize, coefficient_count: usize, rows: usize) -> bool
 
 // The first number of the moduli, modulus by modulus: 10 for a modulus of 0, 9 for one that does not exceed the largest magnitude.
 fn moduli_number(moduli: &[u64], largest: u64) -> u32
-    ensures { result ≡ first_of (moduliNumbers largest moduli.now) }
+    ensures { result ≡ first_of (moduli_numbers largest moduli.now) }
 {
     let mut i = 0;
     while i < moduli.len() {
@@ -49,8 +49,8 @@ pub fn crt_number(
     moduli: &[u64],
     largest: u64,
 ) -> u32
-    ensures { result ≡ first_of (pastEnd words place ∷ shapeNumber n coefficient_count (length moduli.now) ∷ tooLong n
-        ∷ moduliNumbers largest moduli.now) }
+    ensures { result ≡ first_of (past_end words place ∷ shape_number n coefficient_count (length moduli.now) ∷ too_long n
+        ∷ moduli_numbers largest moduli.now) }
 {
     if has_shape(n, coefficient_count, moduli.len()) {
         let asked = moduli_number(moduli, largest);
@@ -61,7 +61,7 @@ pub fn crt_number(
 
 // The residue of a native one: the modulus is added, wrapping, where the top bit is set. No branch, since the sign is random.
 fn from_native(modulus: u64, word: u64) -> u64
-    ensures { result ≡ fromNative modulus word }
+    ensures { result ≡ from_native modulus word }
 {
     let negative = word / 0x8000_0000_0000_0000;
     std::num::wrapping_add_u64(word, modulus * negative)
@@ -71,7 +71,7 @@ fn from_native(modulus: u64, word: u64) -> u64
 // place: an element is read before it is written.
 fn make_row(output: &mut [u64], at: usize, last: usize, modulus: u64)
     requires { (at ≤ last) × (last ≤ length output.old) }
-    ensures { output.new ≡ paste output.old at (map (fromNative modulus) (drop last output.old)) (length output.old - last) }
+    ensures { output.new ≡ paste output.old at (map (from_native modulus) (drop last output.old)) (length output.old - last) }
 {
     let count = output.len() - last;
     let mut c = 0;
@@ -145,7 +145,7 @@ pub struct RowRange {
 // Where the row of modulus number i lies in an output of n elements, for a caller who writes to that row in place. A row out of range, and
 // another shape, have the empty part at the output's start.
 pub fn crt_row_range(n: usize, coefficient_count: usize, moduli_count: usize, i: usize) -> RowRange
-    ensures { result ≡ rowRange n coefficient_count moduli_count i }
+    ensures { result ≡ row_range n coefficient_count moduli_count i }
 {
     if has_shape(n, coefficient_count, moduli_count) & (i < moduli_count) {
         let start = i * coefficient_count;

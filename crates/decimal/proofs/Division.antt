@@ -12,11 +12,11 @@ module _ (base high low d : ℕ) where
       ap (λ n. n * base) (sym (div-add-mod' high d)) ∙ add-mul (high / d * d) (high % d) base in
       omega (arith, split, mul_right_comm (high / d) d base)
 
-  long-div : 0 < d → (high * base + low) / d ≡ high / d * base + (high % d * base + low) / d
-  long-div h = rw (apart, add-mul-div_right (high % d * base + low) (high / d * base) h) (add_comm _ _)
+  long_div : 0 < d → (high * base + low) / d ≡ high / d * base + (high % d * base + low) / d
+  long_div h = rw (apart, add-mul-div_right (high % d * base + low) (high / d * base) h) (add_comm _ _)
 
-  long-mod : (high * base + low) % d ≡ (high % d * base + low) % d
-  long-mod = rw apart (add-mul-mod_self_right _ _ _)
+  long_mod : (high * base + low) % d ≡ (high % d * base + low) % d
+  long_mod = rw apart (add-mul-mod_self_right _ _ _)
 
 -- a number with a half below it: the half's upper piece below the number, and its lower piece below both
 pieces : (base high low : ℕ) → high * (base * base) + low ≡ (high * base + low / base) * base + low % base
@@ -31,7 +31,7 @@ module _ (base high low d : ℕ) where
   lower = upper % d * base + low % base
 
   pub halves-div : 0 < d → high / d * (base * base) + (upper / d * base + lower / d) ≡ (high * (base * base) + low) / d
-  halves-div h = rw (long-div (base * base) high low d h, pieces base (high % d) low, long-div base upper (low % base) d h)
+  halves-div h = rw (long_div (base * base) high low d h, pieces base (high % d) low, long_div base upper (low % base) d h)
 
-  pub halves-mod : lower % d ≡ (high * (base * base) + low) % d
-  halves-mod = rw (long-mod (base * base) high low d, pieces base (high % d) low, long-mod base upper (low % base) d)
+  pub halves_mod : lower % d ≡ (high * (base * base) + low) % d
+  halves_mod = rw (long_mod (base * base) high low d, pieces base (high % d) low, long_mod base upper (low % base) d)

@@ -22,10 +22,10 @@ small (suc n) low e =
 pub one-digit : (high low : ℕ) → (eqb high 0 && ltb low 10) ≡ true → (low < 10) × (decimal (high * 2 ^ 64 + low) ≡ (48 + low) ∷ [])
 one-digit high low e = let s = small high low e in (s.0, rw s.1 (decimal-small low s.0))
 
-pub more-digits : (high low : ℕ) → (eqb high 0 && ltb low 10) ≡ false → 10 ≤ high * 2 ^ 64 + low
-more-digits zero low e = omega (arith, ltb-false low 10 e)
-more-digits (suc n) low e = omega arith
+pub more_digits : (high low : ℕ) → (eqb high 0 && ltb low 10) ≡ false → 10 ≤ high * 2 ^ 64 + low
+more_digits zero low e = omega (arith, ltb-false low 10 e)
+more_digits (suc n) low e = omega arith
 
 -- 2^128 is less than 10^39
-pub digits-fit : {high low : ℕ} → high < 2 ^ 64 → low < 2 ^ 64 → length (decimal (high * 2 ^ 64 + low)) ≤ 39
-digits-fit h l = decimal-few 38 _ (lt_of_lt_of_le (digits_lt h l) (lit≤ tt))
+pub digits_fit : {high low : ℕ} → high < 2 ^ 64 → low < 2 ^ 64 → length (decimal (high * 2 ^ 64 + low)) ≤ 39
+digits_fit h l = decimal-few 38 _ (lt_of_lt_of_le (digits_lt h l) (lit≤ tt))

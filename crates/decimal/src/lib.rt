@@ -1,6 +1,6 @@
 // An inner crate: the decimal text of a number of 128 bits, given as two halves of 64.
 ghost use Rattle.std.specs.Prelude.{◌≡◌, ◌+◌, ◌*◌, ◌/◌, ◌%◌, ◌^◌, ◌≤◌, length};
-ghost use Rattle.decimal.specs.Decimal.{decimal, atFront, Counts};
+ghost use Rattle.decimal.specs.Decimal.{decimal, at_front, Counts};
 
 // A piece is half of a half.
 const PIECE: u64 = 0x1_0000_0000;
@@ -30,7 +30,7 @@ fn tenth(high: u64, low: u64) -> Quotient
 // Puts the decimal digits at the start of `text`, and hands back how many there are: those of the number before the last digit, then the last.
 fn write_digits(high: u64, low: u64, text: &mut [u8]) -> usize
     requires { length (decimal (high * 2 ^ 64 + low)) ≤ length text.old }
-    ensures { (result, text.new) ≡ atFront (decimal (high * 2 ^ 64 + low)) text.old }
+    ensures { (result, text.new) ≡ at_front (decimal (high * 2 ^ 64 + low)) text.old }
 {
     if (high == 0) & (low < 10) {
         text[0] = 48 + low as u8;
@@ -44,7 +44,7 @@ fn write_digits(high: u64, low: u64, text: &mut [u8]) -> usize
 
 // Puts the decimal digits of high * 2^64 + low at the start of `digits`, and hands back how many there are. (39 digits hold any 128 bits.)
 pub fn write_halves(high: u64, low: u64, digits: &mut [u8; 39]) -> usize
-    ensures digits_after { (result, digits.new) ≡ atFront (decimal (high * 2 ^ 64 + low)) digits.old }
+    ensures digits_after { (result, digits.new) ≡ at_front (decimal (high * 2 ^ 64 + low)) digits.old }
     ensures counts { Counts result digits.new }
 {
     write_digits(high, low, digits)

@@ -8,7 +8,7 @@ use borrow.Author.Tests.{ne_eqb}
 use lib.Dec.{eqb}
 use lib.ListN.{length, replicate, replicate-append-replicate}
 use lib.IntN.{pos}
-use Rattle.distr.specs.Constants.{invalidDeskRequest, outOfWords}
+use Rattle.distr.specs.Constants.{invalid_desk_request, out_of_words}
 use Rattle.distr.specs.Skipped.{nothing}
 use Rattle.distr.specs.Answers.{reported}
 use Rattle.distr.specs.Packed.{digits, split}
@@ -17,8 +17,8 @@ use Rattle.distr.specs.Making.{refuse}
 use Rattle.distr.proofs.Writing.{map-replicate}
 use Rattle.little_endian.specs.LittleEndian.{words_in, bytes_of}
 use Rattle.sheet_request.specs.Request.{question}
-use Rattle.sheet_request.proofs.Idle.{question-idle}
-use Rattle.desk.specs.Desk.{badRequest, deskNumber, drawnAnswer, deskDraw}
+use Rattle.sheet_request.proofs.Idle.{question_idle}
+use Rattle.desk.specs.Desk.{bad_request, desk_number, drawn_answer, desk_draw}
 use Rattle.desk.specs.Changes.{Changes, EveryCall}
 use Rattle.desk.proofs.Requests.{good}
 
@@ -35,26 +35,26 @@ zero-bytes n = ap (split 256 8) (map-replicate (encode (2 ^ 64)) n (pos 0)) ∙ 
 
 module _ (kind a b modulus : ℕ) (words : List ℕ) (place : ℕ) (output : List ℕ) where
   -- a request that is drawn
-  drawn-changes : deskNumber (length words) (length output) ≡ 0 → Changes place output (drawnAnswer kind a b modulus (words_in words) place output)
-  unfolding drawnAnswer reported
-  drawn-changes e =
+  drawn_changes : desk_number (length words) (length output) ≡ 0 → Changes place output (drawn_answer kind a b modulus (words_in words) place output)
+  unfolding drawn_answer reported
+  drawn_changes e =
       let n = length output / 8 in
       let o = question kind a b modulus (words_in words) place (replicate n (pos 0)) in
-      let idle = question-idle (words_in words) place n kind a b modulus in
-      let whole : n * 8 ≡ length output = omega (arith, (good (length words) (length output) e).whole-output) in
+      let idle = question_idle (words_in words) place n kind a b modulus in
+      let whole : n * 8 ≡ length output = omega (arith, (good (length words) (length output) e).whole_output) in
       record {
         refused = λ never. ((idle never).0, rw (ne_eqb o.number 0 never));
         short = λ z. rw z (ap bytes_of (idle (λ e. omega arith)).1 ∙ zero-bytes n ∙ ap (λ (k : ℕ). replicate {A = ℕ} k 0) whole);
-        unchanged = λ never later. rw (ne_eqb o.number 0 never, ne_eqb o.number outOfWords later);
+        unchanged = λ never later. rw (ne_eqb o.number 0 never, ne_eqb o.number out_of_words later);
       }
 
 pub every_call : EveryCall
-unfolding deskDraw deskNumber
-every_call kind a b modulus words place output = go (badRequest (length words) (length output)) refl
+unfolding desk_draw desk_number
+every_call kind a b modulus words place output = go (bad_request (length words) (length output)) refl
   where
-    go : (bad : Bool) → badRequest (length words) (length output) ≡ bad
+    go : (bad : Bool) → bad_request (length words) (length output) ≡ bad
         → Changes place output
-        (cond (eqb (refuse bad invalidDeskRequest) 0) (drawnAnswer kind a b modulus (words_in words) place output)
-        (record { number = refuse bad invalidDeskRequest; place = place; skipped = nothing; output = output }))
+        (cond (eqb (refuse bad invalid_desk_request) 0) (drawn_answer kind a b modulus (words_in words) place output)
+        (record { number = refuse bad invalid_desk_request; place = place; skipped = nothing; output = output }))
     go true e = record { refused = λ never. (refl, refl); short = λ z. absurd (omega arith); unchanged = λ never later. refl }
-    go false e = drawn-changes kind a b modulus words place output (rw e)
+    go false e = drawn_changes kind a b modulus words place output (rw e)

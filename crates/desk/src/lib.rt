@@ -2,9 +2,9 @@
 // since no contract can ask it of a foreign caller, stands in include/desk.h: every pointer, that of an empty slice too, is not null and aligned for its
 // elements, and valid for its length; and what is written overlaps nothing else that the call is lent.
 ghost use Rattle.std.specs.Prelude.{◌≡◌, ◌/◌, ◌%◌, ◌≤◌, length, replicate, pos};
-ghost use Rattle.distr.specs.Constants.{deskCoefficients, deskWords};
+ghost use Rattle.distr.specs.Constants.{desk_coefficients, desk_words};
 ghost use Rattle.little_endian.specs.LittleEndian.{words_in};
-ghost use Rattle.desk.specs.Desk.{deskNumber, deskAnswer, drawnAnswer, deskDraw};
+ghost use Rattle.desk.specs.Desk.{desk_number, desk_answer, drawn_answer, desk_draw};
 
 use distr::answer::Answer;
 use distr::limits::{MAX_DESK_COEFFICIENTS, MAX_DESK_WORDS};
@@ -15,21 +15,21 @@ use sheet_request::draw_question;
 
 // Room for the words of a request.
 fn words_room() -> [u32; 8192]
-    ensures { length result ≡ deskWords }
+    ensures { length result ≡ desk_words }
 {
     [0; 8192]
 }
 
 // Room for its coefficients.
 fn coefficients_room() -> [i64; 4096]
-    ensures { result ≡ replicate deskCoefficients (pos 0) }
+    ensures { result ≡ replicate desk_coefficients (pos 0) }
 {
     [0; 4096]
 }
 
 // What refuses a request by the bytes of its words and its output: 29 for too many items, or for bytes that are no whole number of them.
 fn desk_number(word_bytes: usize, output_bytes: usize) -> u32
-    ensures { result ≡ deskNumber word_bytes output_bytes }
+    ensures { result ≡ desk_number word_bytes output_bytes }
 {
     if (MAX_DESK_COEFFICIENTS < output_bytes / 8)
         | (MAX_DESK_WORDS < word_bytes / 4)
@@ -51,9 +51,9 @@ fn draw(
     output: &mut [u8],
     place: usize,
 ) -> Answer
-    requires { (length output.old / 8 ≤ deskCoefficients) × (length output.old % 8 ≡ 0) }
-    ensures { deskAnswer result.number result.place result.skipped_words result.skipped_bytes output.new
-        ≡ drawnAnswer kind a b modulus words.now place output.old }
+    requires { (length output.old / 8 ≤ desk_coefficients) × (length output.old % 8 ≡ 0) }
+    ensures { desk_answer result.number result.place result.skipped_words result.skipped_bytes output.new
+        ≡ drawn_answer kind a b modulus words.now place output.old }
 {
     let n = output.len() / 8;
     let mut room = coefficients_room();
@@ -76,9 +76,9 @@ fn draw_bytes(
     output: &mut [u8],
     place: usize,
 ) -> Answer
-    requires { deskNumber (length words.now) (length output.old) ≡ 0 }
-    ensures { deskAnswer result.number result.place result.skipped_words result.skipped_bytes output.new
-        ≡ drawnAnswer kind a b modulus (words_in words.now) place output.old }
+    requires { desk_number (length words.now) (length output.old) ≡ 0 }
+    ensures { desk_answer result.number result.place result.skipped_words result.skipped_bytes output.new
+        ≡ drawn_answer kind a b modulus (words_in words.now) place output.old }
 {
     let count = words.len() / 4;
     let mut store = words_room();
@@ -102,8 +102,8 @@ pub extern "C" fn desk_draw(
     skipped_words: &mut u64,
     skipped_bytes: &mut u64,
 ) -> u32
-    ensures { deskAnswer result place.new skipped_words.new skipped_bytes.new output.new
-        ≡ deskDraw kind a b modulus words.now place.old output.old }
+    ensures { desk_answer result place.new skipped_words.new skipped_bytes.new output.new
+        ≡ desk_draw kind a b modulus words.now place.old output.old }
 {
     *skipped_words = 0;
     *skipped_bytes = 0;

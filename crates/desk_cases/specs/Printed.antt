@@ -15,5 +15,5 @@ abbrev pub printed : ℕ → ℕ → ℕ → ℕ → List ℕ → Printed
 printed number place words bytes field = record { number = number; place = place; words = words; bytes = bytes; field = field }
 
 -- Of the desk's answer: every byte of its output, in hexadecimal.
-abbrev pub printedOf : DeskAnswer → Printed
-printedOf a = printed a.number a.place a.skipped.words a.skipped.bytes (shown a.output)
+abbrev pub printed_of : DeskAnswer → Printed
+printed_of a = printed a.number a.place a.skipped.words a.skipped.bytes (shown a.output)

@@ -1,8 +1,8 @@
 // A request's answer, and what is printed of it.
 ghost use Rattle.std.specs.Prelude.{◌≡◌, ◌*◌, ◌<◌, ◌≤◌, length, take};
 ghost use Rattle.io.specs.Counts.{IsPrefixLen};
-ghost use Rattle.desk.specs.Desk.{deskDraw};
-ghost use Rattle.desk_cases.specs.Printed.{printed, printedOf};
+ghost use Rattle.desk.specs.Desk.{desk_draw};
+ghost use Rattle.desk_cases.specs.Printed.{printed, printed_of};
 
 use crate::hex::write_field;
 use desk::desk_draw;
@@ -31,7 +31,7 @@ pub(crate) fn draw(
 ) -> Drawn
     requires { (2 * length output.old ≤ length text.old) × (0 < length text.old) }
     ensures text_after { printed result.number result.place result.skipped_words result.skipped_bytes (take result.end text.new)
-        ≡ printedOf (deskDraw kind a b modulus words.now place output.old) }
+        ≡ printed_of (desk_draw kind a b modulus words.now place output.old) }
     ensures prefix_len { IsPrefixLen result.end text.new }
 {
     let mut after = place;

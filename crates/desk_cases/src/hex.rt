@@ -1,7 +1,7 @@
 // Bytes in lower-case hexadecimal, two digits a byte, and `-` for none.
 ghost use Rattle.std.specs.Prelude.{◌≡◌, ◌*◌, ◌<◌, ◌≤◌, length, take};
 ghost use Rattle.io.specs.Counts.{IsPrefixLen};
-ghost use Rattle.desk_cases.specs.Hexadecimal.{digit, hex, shown, isDigit, value_of, allDigits, bytesIn, Read};
+ghost use Rattle.desk_cases.specs.Hexadecimal.{digit, hex, shown, is_digit, value_of, all_digits, bytes_in, Read};
 
 // The digit of a number below 16.
 fn digit_of(value: u8) -> u8
@@ -47,7 +47,7 @@ pub(crate) fn write_field(values: &[u8], text: &mut [u8]) -> usize
 
 // Whether a byte is a digit.
 fn is_digit(byte: u8) -> bool
-    ensures { result ≡ isDigit byte }
+    ensures { result ≡ is_digit byte }
 {
     ((48 <= byte) & (byte <= 57)) | ((97 <= byte) & (byte <= 102))
 }
@@ -68,7 +68,7 @@ fn value_of(byte: u8) -> u8
 
 // Whether every byte of a text is a digit.
 fn all_digits(text: &[u8]) -> bool
-    ensures { result ≡ allDigits text.now }
+    ensures { result ≡ all_digits text.now }
 {
     let mut i = 0;
     while i < text.len() {
@@ -83,7 +83,7 @@ fn all_digits(text: &[u8]) -> bool
 // Reads the bytes of digits, which are twice as many.
 fn read_digits(text: &[u8], values: &mut [u8])
     requires { length text.now ≡ 2 * length values.old }
-    ensures { values.new ≡ bytesIn text.now }
+    ensures { values.new ≡ bytes_in text.now }
 {
     let n = values.len();
     let mut i = 0;

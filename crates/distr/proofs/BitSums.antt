@@ -34,8 +34,8 @@ total-bits (suc k) x =
 pub first-ones : (width eta w : ℕ) → eta ≤ width → total (take eta (digits 2 width w)) ≡ ones (w % 2 ^ eta)
 first-ones width eta w h = ap total (take-digits 2 width eta w h) ∙ total-bits eta w
 
-pub second-ones : (width eta w : ℕ) → 2 * eta ≤ width → total (take eta (drop eta (digits 2 width w))) ≡ ones (w / 2 ^ eta % 2 ^ eta)
-second-ones width eta w h =
+pub second_ones : (width eta w : ℕ) → 2 * eta ≤ width → total (take eta (drop eta (digits 2 width w))) ≡ ones (w / 2 ^ eta % 2 ^ eta)
+second_ones width eta w h =
     ap (λ (l : List ℕ). total (take eta l)) (drop-digits 2 width eta w (omega arith))
     ∙ ap total (take-digits 2 (width - eta) eta (w / 2 ^ eta) (omega arith)) ∙ total-bits eta (w / 2 ^ eta)
 
@@ -51,9 +51,9 @@ total_at_most (suc m) zero (suc k) x = omega (arith, total_at_most m zero k (x /
 total_at_most (suc m) (suc j) k x = total_at_most m j k (x / 2)
 
 -- so the magnitude of the difference of two such sums is at most k
-pub difference-at-most : {most : ℕ} (x y : ℕ) → x ≤ most → y ≤ most → nat_abs (pos x -ℤ pos y) ≤ most
-difference-at-most x zero h k = omega arith
-difference-at-most {most} x (suc y) h k = go (ltb x (suc y)) refl
+pub difference_at_most : {most : ℕ} (x y : ℕ) → x ≤ most → y ≤ most → nat_abs (pos x -ℤ pos y) ≤ most
+difference_at_most x zero h k = omega arith
+difference_at_most {most} x (suc y) h k = go (ltb x (suc y)) refl
   where
     go : (b : Bool) → ltb x (suc y) ≡ b → nat_abs (sub_ℕ x (suc y)) ≤ most
     go true e = rw e (omega (arith, ltb-true x (suc y) e))

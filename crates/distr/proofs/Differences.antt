@@ -12,6 +12,6 @@ minus_pos x zero h = ap pos (add-zero x ∙ sym (sub-zero x))
 minus_pos x (suc y) h = rw (le-ltb x (suc y) h)
 
 -- below zero
-pub minus-neg : (x y : ℕ) → x < y → pos x -ℤ pos y ≡ negsuc (y - x - 1)
-minus-neg x zero h = absurd (omega arith)
-minus-neg x (suc y) h = rw (lt-ltb x (suc y) h) (ap negsuc (omega arith))
+pub minus_neg : (x y : ℕ) → x < y → pos x -ℤ pos y ≡ negsuc (y - x - 1)
+minus_neg x zero h = absurd (omega arith)
+minus_neg x (suc y) h = rw (lt-ltb x (suc y) h) (ap negsuc (omega arith))

@@ -32,12 +32,12 @@ drop-digits base (suc m) (suc k) x h =
     ∙ rw suc-sub-suc (ap (λ (y : ℕ). digits base (m - k) y) (div-div-eq-div-mul x base (base ^ k) ∙ ap (λ (y : ℕ). x / y) (sym (pow-succ' base k))))
 
 -- digit j
-pub getD-digits : (base count x j : ℕ) → j < count → get_or (digits base count x) j 0 ≡ x / base ^ j % base
+pub get_d_digits : (base count x j : ℕ) → j < count → get_or (digits base count x) j 0 ≡ x / base ^ j % base
 unfolding digits
-getD-digits base zero x j h = absurd (not-suc-le-zero h)
-getD-digits base (suc count) x zero h = rw pow-zero (ap (λ (y : ℕ). y % base) (sym (div-one x)))
-getD-digits base (suc count) x (suc j) h =
-    getD-digits base count (x / base) j (le_of_suc-le-suc h)
+get_d_digits base zero x j h = absurd (not-suc-le-zero h)
+get_d_digits base (suc count) x zero h = rw pow-zero (ap (λ (y : ℕ). y % base) (sym (div-one x)))
+get_d_digits base (suc count) x (suc j) h =
+    get_d_digits base count (x / base) j (le_of_suc-le-suc h)
     ∙ ap (λ (y : ℕ). y % base) (div-div-eq-div-mul x base (base ^ j) ∙ ap (λ (y : ℕ). x / y) (sym (pow-succ' base j)))
 
 -- the digits of many numbers: how many there are, those of the first numbers, and those from a number on
@@ -77,15 +77,15 @@ module _ (base each : ℕ) where
       ∙ ap (λ (k : ℕ). take k (ds ++ split base each ws)) (sym (word-front ds m (length_digits base each w)))
 
 -- digit j of number i, also past the last number, where both are 0
-pub getD-split : (base each : ℕ) (xs : List ℕ) (i j : ℕ) → j < each → get_or (split base each xs) (i * each + j) 0 ≡ get_or xs i 0 / base ^ j % base
+pub get_d_split : (base each : ℕ) (xs : List ℕ) (i j : ℕ) → j < each → get_or (split base each xs) (i * each + j) 0 ≡ get_or xs i 0 / base ^ j % base
 unfolding split
-getD-split base each [] i j h = rw (zero-div (base ^ j), zero-mod base)
-getD-split base each (x ∷ xs) zero j h =
-    rw (zero-mul each, zero-add j) (get_or-append (digits base each x) (split base each xs) 0 j (rw (length_digits base each x) h) ∙ getD-digits base each x j h)
-getD-split base each (x ∷ xs) (suc i) j h =
+get_d_split base each [] i j h = rw (zero-div (base ^ j), zero-mod base)
+get_d_split base each (x ∷ xs) zero j h =
+    rw (zero-mul each, zero-add j) (get_or-append (digits base each x) (split base each xs) 0 j (rw (length_digits base each x) h) ∙ get_d_digits base each x j h)
+get_d_split base each (x ∷ xs) (suc i) j h =
     let behind : suc i * each + j ≡ length (digits base each x) + (i * each + j) = omega (arith, suc-mul i each, length_digits base each x) in
-    rw behind (get_or-append-add (digits base each x) (split base each xs) (i * each + j) 0 ∙ getD-split base each xs i j h)
+    rw behind (get_or-append-add (digits base each x) (split base each xs) (i * each + j) 0 ∙ get_d_split base each xs i j h)
 
 -- a byte string's bits are the digits of its bytes
 pub get_d_bits : (B : List ℕ) (k : ℕ) → get_or (split 2 8 B) k 0 ≡ bit_of B k
-get_d_bits B k = ap (λ (l : ℕ). get_or (split 2 8 B) l 0) (sym (div-add-mod' k 8)) ∙ getD-split 2 8 B (k / 8) (k % 8) (mod-lt k (omega arith))
+get_d_bits B k = ap (λ (l : ℕ). get_or (split 2 8 B) l 0) (sym (div-add-mod' k 8)) ∙ get_d_split 2 8 B (k / 8) (k % 8) (mod-lt k (omega arith))

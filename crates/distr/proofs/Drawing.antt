@@ -9,12 +9,12 @@ use borrow.Author.Tests.{le-ltb, ltb-false, ne_eqb}
 use lib.Dec.{ltb}
 use lib.ListN.{length, drop, replicate}
 use lib.IntN.{ℤ, pos}
-use Rattle.distr.specs.Words.{Read, got, short, mapRead}
+use Rattle.distr.specs.Words.{Read, got, short, map_read}
 use Rattle.distr.specs.Rule.{Rule, read_by}
 use Rattle.distr.specs.Making.{refuse}
-use Rattle.distr.specs.Numbers.{first_of, badWeight}
-use Rattle.distr.proofs.Reading.{short-not-got, or-false}
-use Rattle.distr.specs.Draw.{Outcome, settled, judged, readDraw, ruleDraw}
+use Rattle.distr.specs.Numbers.{first_of, bad_weight}
+use Rattle.distr.proofs.Reading.{short-not-got, or_false}
+use Rattle.distr.specs.Draw.{Outcome, settled, judged, read_draw, rule_draw}
 
 -- the first number decides: 0 is passed over, another stands
 pub first-zero : (k : ℕ) (ns : List ℕ) → k ≡ 0 → first_of (k ∷ ns) ≡ first_of ns
@@ -45,8 +45,8 @@ not-refused true k e = absurd (omega arith)
 not-refused false k e = refl
 
 -- a weight that is not refused fits
-pub weight-fits : (weight n : ℕ) → badWeight weight n ≡ 0 → weight ≤ n
-weight-fits weight n e = ltb-false n weight (or-false (ltb n weight) _ (not-refused _ 6 e)).0
+pub weight_fits : (weight n : ℕ) → bad_weight weight n ≡ 0 → weight ≤ n
+weight_fits weight n e = ltb-false n weight (or_false (ltb n weight) _ (not-refused _ 6 e)).0
 
 -- what is judged by 0 is drawn, and what another number judges is left as it was
 judged-zero : {A : Type 0} (k place : ℕ) (out : List A) (given : Outcome A) → k ≡ 0 → judged k place out given ≡ given
@@ -60,9 +60,9 @@ judged-some k place out given h = rw (ne_eqb k 0 (λ e. omega arith))
 
 -- what a reading wrote is settled: drawn up to the place after it, or short of words
 module _ {A : Type 0} (write : List ℤ → List A) (count place n : ℕ) (out : List A) where
-  pub settled-got : (r : Read (List ℤ)) (rest : List ℕ) {at : ℕ} → count - length rest ≡ at → mapRead write r ≡ got out rest
+  pub settled-got : (r : Read (List ℤ)) (rest : List ℕ) {at : ℕ} → count - length rest ≡ at → map_read write r ≡ got out rest
       → record { number = 0; place = at; index = 0; output = out } ≡ settled write count place n r
-  unfolding settled mapRead
+  unfolding settled map_read
   settled-got (got cs left) rest p e =
       let same : got (write cs) left ≡ got out rest = e in
       let outs : write cs ≡ out = cc in
@@ -70,49 +70,49 @@ module _ {A : Type 0} (write : List ℤ → List A) (count place n : ℕ) (out :
       rw (← p, ← outs, ← rests)
   settled-got short rest p e = absurd (short-not-got e)
 
-  pub settled-short : (r : Read (List ℤ)) → mapRead write r ≡ short → out ≡ write (replicate n (pos 0))
+  pub settled-short : (r : Read (List ℤ)) → map_read write r ≡ short → out ≡ write (replicate n (pos 0))
       → record { number = 23; place = place; index = 0; output = out } ≡ settled write count place n r
-  unfolding settled mapRead
+  unfolding settled map_read
   settled-short (got cs left) e z = absurd (short-not-got (sym e))
   settled-short short e z = rw z
 
 module _ {A : Type 0} (write : List ℤ → List A) (number : ℕ) (rules : List ℕ → Read (List ℤ)) (words : List ℕ) (place : ℕ) (out : List A) where
   -- neither 22 nor 6: the draw's own number decides
   passed : place ≤ length words → length out ≤ 65536
-      → readDraw write number rules words place out
+      → read_draw write number rules words place out
       ≡ judged (first_of (number ∷ [])) place out (settled write (length words) place (length out) (rules (drop place words)))
   unfolding first_of
   passed h k = rw (le-ltb (length words) place h, le-ltb 65536 (length out) k)
 
   -- the draw's own number
-  pub read-own : place ≤ length words → length out ≤ 65536 → 0 < number → readDraw write number rules words place out ≡ record { number = number; place = place; index = 0; output = out }
-  read-own h k l = passed h k ∙ rw (first_some number [] l) (judged-some number place out _ l)
+  pub read_own : place ≤ length words → length out ≤ 65536 → 0 < number → read_draw write number rules words place out ≡ record { number = number; place = place; index = 0; output = out }
+  read_own h k l = passed h k ∙ rw (first_some number [] l) (judged-some number place out _ l)
 
   -- accepted: what the rules give is settled
-  pub read-settled : place ≤ length words → length out ≤ 65536 → number ≡ 0
-      → readDraw write number rules words place out ≡ settled write (length words) place (length out) (rules (drop place words))
+  pub read_settled : place ≤ length words → length out ≤ 65536 → number ≡ 0
+      → read_draw write number rules words place out ≡ settled write (length words) place (length out) (rules (drop place words))
   unfolding first_of
-  read-settled h k l = passed h k ∙ judged-zero (first_of (number ∷ [])) place out _ (first-zero number [] l)
+  read_settled h k l = passed h k ∙ judged-zero (first_of (number ∷ [])) place out _ (first-zero number [] l)
 
   -- enough words or not
-  pub read-got : place ≤ length words → length out ≤ 65536 → number ≡ 0 → (cs : List ℤ) (rest : List ℕ) → rules (drop place words) ≡ got cs rest
-      → readDraw write number rules words place out ≡ record { number = 0; place = length words - length rest; index = 0; output = write cs }
+  pub read_got : place ≤ length words → length out ≤ 65536 → number ≡ 0 → (cs : List ℤ) (rest : List ℕ) → rules (drop place words) ≡ got cs rest
+      → read_draw write number rules words place out ≡ record { number = 0; place = length words - length rest; index = 0; output = write cs }
   unfolding settled
-  read-got h k l cs rest e = read-settled h k l ∙ ap (settled write (length words) place (length out)) e
+  read_got h k l cs rest e = read_settled h k l ∙ ap (settled write (length words) place (length out)) e
 
   pub read_short : place ≤ length words → length out ≤ 65536 → number ≡ 0 → rules (drop place words) ≡ short
-      → readDraw write number rules words place out ≡ record { number = 23; place = place; index = 0; output = write (replicate (length out) (pos 0)) }
+      → read_draw write number rules words place out ≡ record { number = 23; place = place; index = 0; output = write (replicate (length out) (pos 0)) }
   unfolding settled
-  read_short h k l e = read-settled h k l ∙ ap (settled write (length words) place (length out)) e
+  read_short h k l e = read_settled h k l ∙ ap (settled write (length words) place (length out)) e
 
 -- the same of a draw by one rule
 module _ {A : Type 0} (write : List ℤ → List A) (number : ℕ) (rule : Rule) (words : List ℕ) (place : ℕ) (out : List A) where
   pub rule-got : place ≤ length words → length out ≤ 65536 → number ≡ 0 → (cs : List ℤ) (rest : List ℕ) → read_by rule (drop place words) ≡ got cs rest
-      → ruleDraw write number rule words place out ≡ record { number = 0; place = length words - length rest; index = 0; output = write cs }
-  unfolding ruleDraw
-  rule-got = read-got write number (read_by rule) words place out
+      → rule_draw write number rule words place out ≡ record { number = 0; place = length words - length rest; index = 0; output = write cs }
+  unfolding rule_draw
+  rule-got = read_got write number (read_by rule) words place out
 
   pub rule-short : place ≤ length words → length out ≤ 65536 → number ≡ 0 → read_by rule (drop place words) ≡ short
-      → ruleDraw write number rule words place out ≡ record { number = 23; place = place; index = 0; output = write (replicate (length out) (pos 0)) }
-  unfolding ruleDraw
+      → rule_draw write number rule words place out ≡ record { number = 23; place = place; index = 0; output = write (replicate (length out) (pos 0)) }
+  unfolding rule_draw
   rule-short = read_short write number (read_by rule) words place out

@@ -12,11 +12,11 @@ use lib.ListN.{length, get_or}
 use lib.Ieee.{Float, lt, eq}
 use lib.Ieee.Scale.{finite}
 use Rattle.distr.specs.Constants.{literal}
-use Rattle.distr.specs.Gaussian.{neverFalls, rising}
-use Rattle.distr.specs.Layered.{Layers, layerCount, allFinite, falls, inUnit, allInUnit, heightList, curveList, layerTables}
-use Rattle.distr.specs.FirstWrong.{Asked, endpointsAsked, heightsAsked, curveAsked, right, firstNot, firstWrong, wrongEndpoint, wrongHeight, wrongValue, rightSizes}
+use Rattle.distr.specs.Gaussian.{never_falls, rising}
+use Rattle.distr.specs.Layered.{Layers, layer_count, all_finite, falls, in_unit, all_in_unit, height_list, curve_list, layer_tables}
+use Rattle.distr.specs.FirstWrong.{Asked, endpoints_asked, heights_asked, curve_asked, right, first_not, first_wrong, wrong_endpoint, wrong_height, wrong_value, right_sizes}
 use Rattle.distr.specs.Making.{refuse}
-use Rattle.distr.specs.Numbers.{first_of, layerNumber, layerIndex}
+use Rattle.distr.specs.Numbers.{first_of, layer_number, layer_index}
 use Rattle.distr.proofs.Reading.{and_left, and_right, and_both}
 use Rattle.distr.proofs.Rising.{is-rising}
 
@@ -27,14 +27,14 @@ pub record First (right : ℕ → Bool) (i more j : ℕ) : Type 0 where
   pub earlier : (k : ℕ) → i ≤ k → k < j → T (right k)
   pub wrong : j < i + more → T (not (right j))
 
-pub first-not : (right : ℕ → Bool) (i more : ℕ) → First right i more (firstNot right i more)
-unfolding firstNot
+pub first-not : (right : ℕ → Bool) (i more : ℕ) → First right i more (first_not right i more)
+unfolding first_not
 first-not right i zero =
     record { from = le_refl i; to = omega arith; earlier = λ k l u. absurd (omega arith); wrong = λ h. absurd (omega arith) }
 first-not right i (suc more) = go (right i) refl (first-not right (suc i) more)
   where
-    go : (b : Bool) → right i ≡ b → First right (suc i) more (firstNot right (suc i) more)
-        → First right i (suc more) (cond b (firstNot right (suc i) more) i)
+    go : (b : Bool) → right i ≡ b → First right (suc i) more (first_not right (suc i) more)
+        → First right i (suc more) (cond b (first_not right (suc i) more) i)
     go true e x = record {
       from = omega arith;
       to = omega arith;
@@ -50,14 +50,14 @@ four true true false d t = absurd t
 four true false c d t = absurd t
 four false b c d t = absurd t
 
-all-four : (a b c d : Bool) → T a → T b → T c → T d → T (a && b && c && d)
-all-four a b c d x y z w = and_both (a && b && c) d (and_both (a && b) c (and_both a b x y) z) w
+all_four : (a b c d : Bool) → T a → T b → T c → T d → T (a && b && c && d)
+all_four a b c d x y z w = and_both (a && b && c) d (and_both (a && b) c (and_both a b x y) z) w
 
 -- an element that is there, whatever stands for a missing one
-pub getD-there : {A : Type 0} (xs : List A) (i : ℕ) (d e : A) → i < length xs → get_or xs i d ≡ get_or xs i e
-getD-there [] i d e h = absurd (not-suc-le-zero h)
-getD-there (x ∷ xs) zero d e h = refl
-getD-there (x ∷ xs) (suc i) d e h = getD-there xs i d e (le_of_suc-le-suc h)
+pub get_d_there : {A : Type 0} (xs : List A) (i : ℕ) (d e : A) → i < length xs → get_or xs i d ≡ get_or xs i e
+get_d_there [] i d e h = absurd (not-suc-le-zero h)
+get_d_there (x ∷ xs) zero d e h = refl
+get_d_there (x ∷ xs) (suc i) d e h = get_d_there xs i d e (le_of_suc-le-suc h)
 
 -- a list with no wrong entry, by what is asked of it
 record AllRight {A : Type 0} (asked : Asked A) (none : A) (xs : List A) : Type 0 where
@@ -82,8 +82,8 @@ module _ {A : Type 0} (asked : Asked A) (none : A) (xs : List A) where
       let same : suc i - 1 ≡ i = omega arith in
       rw (eqb-suc-zero i, same)
 
-  none-wrong : ltb (firstWrong asked none xs) (length xs) ≡ false → AllRight asked none xs
-  none-wrong e = record {
+  none_wrong : ltb (first_wrong asked none xs) (length xs) ≡ false → AllRight asked none xs
+  none_wrong e = record {
     each = λ i h. and_left (own i) (before i) (two i h);
     first = λ h. and_right (own 0) (before 0) (two 0 h);
     next = λ i h. rw (later i) at (and_right (own (suc i)) (before (suc i)) (two (suc i) h));
@@ -96,13 +96,13 @@ module _ {A : Type 0} (asked : Asked A) (none : A) (xs : List A) where
       whole : (i : ℕ) → i < length xs → T (right asked none xs i)
       whole i h =
           (first-not (right asked none xs) 0 (length xs)).earlier i (omega arith)
-          (omega (arith, ltb-false (firstWrong asked none xs) (length xs) e))
+          (omega (arith, ltb-false (first_wrong asked none xs) (length xs) e))
 
       two : (i : ℕ) → i < length xs → T (own i && before i)
       two i h = and_left (own i && before i) (end i) (whole i h)
 
-  right-none : AllRight asked none xs → ltb (firstWrong asked none xs) (length xs) ≡ false
-  right-none x = go (ltb (firstWrong asked none xs) (length xs)) refl
+  right_none : AllRight asked none xs → ltb (first_wrong asked none xs) (length xs) ≡ false
+  right_none x = go (ltb (first_wrong asked none xs) (length xs)) refl
     where
       starts : (i : ℕ) → i < length xs → T (before i)
       starts zero h = x.first h
@@ -117,101 +117,101 @@ module _ {A : Type 0} (asked : Asked A) (none : A) (xs : List A) where
       whole i h =
           and_both (own i && before i) (end i) (and_both (own i) (before i) (x.each i h) (starts i h)) (ends i h (eqb (i + 1) (length xs)) refl)
 
-      go : (b : Bool) → ltb (firstWrong asked none xs) (length xs) ≡ b → b ≡ false
+      go : (b : Bool) → ltb (first_wrong asked none xs) (length xs) ≡ b → b ≡ false
       go false e = refl
       go true e =
-          let j = firstWrong asked none xs in
+          let j = first_wrong asked none xs in
           let h : j < length xs = ltb-true j (length xs) e in
           absurd (T_not (right asked none xs j) ((first-not (right asked none xs) 0 (length xs)).wrong (omega arith)) (whole j h))
 
 -- tests of a list by its first element and the rest, as tests of its entries: of each, and of each and the one after it
 module _ {A : Type 0} (all : List A → Bool) (none : A) where
   module _ (test : A → Bool) (nil : T (all [])) (step : (x : A) (xs : List A) → all (x ∷ xs) ≡ test x && all xs) where
-    each-list : (xs : List A) → ((i : ℕ) → i < length xs → T (test (get_or xs i none))) → T (all xs)
-    each-list [] f = nil
-    each-list (x ∷ xs) f = rw (step x xs) (and_both (test x) (all xs) (f 0 (omega arith)) (each-list xs (λ i h. f (suc i) (omega arith))))
+    each_list : (xs : List A) → ((i : ℕ) → i < length xs → T (test (get_or xs i none))) → T (all xs)
+    each_list [] f = nil
+    each_list (x ∷ xs) f = rw (step x xs) (and_both (test x) (all xs) (f 0 (omega arith)) (each_list xs (λ i h. f (suc i) (omega arith))))
 
-    list-each : (xs : List A) → T (all xs) → (i : ℕ) → i < length xs → T (test (get_or xs i none))
-    list-each [] t i h = absurd (not-suc-le-zero h)
-    list-each (x ∷ xs) t zero h = and_left (test x) (all xs) (rw (step x xs) at t)
-    list-each (x ∷ xs) t (suc i) h = list-each xs (and_right (test x) (all xs) (rw (step x xs) at t)) i (le_of_suc-le-suc h)
+    list_each : (xs : List A) → T (all xs) → (i : ℕ) → i < length xs → T (test (get_or xs i none))
+    list_each [] t i h = absurd (not-suc-le-zero h)
+    list_each (x ∷ xs) t zero h = and_left (test x) (all xs) (rw (step x xs) at t)
+    list_each (x ∷ xs) t (suc i) h = list_each xs (and_right (test x) (all xs) (rw (step x xs) at t)) i (le_of_suc-le-suc h)
 
   module _ (test : A → A → Bool) (nil : T (all [])) (one : (x : A) → T (all (x ∷ [])))
       (step : (x y : A) (xs : List A) → all (x ∷ y ∷ xs) ≡ test x y && all (y ∷ xs)) where
-    next-list : (xs : List A) → ((i : ℕ) → suc i < length xs → T (test (get_or xs i none) (get_or xs (suc i) none))) → T (all xs)
-    next-list [] f = nil
-    next-list (x ∷ []) f = one x
-    next-list (x ∷ y ∷ xs) f =
-        rw (step x y xs) (and_both (test x y) (all (y ∷ xs)) (f 0 (omega arith)) (next-list (y ∷ xs) (λ i h. f (suc i) (omega arith))))
+    next_list : (xs : List A) → ((i : ℕ) → suc i < length xs → T (test (get_or xs i none) (get_or xs (suc i) none))) → T (all xs)
+    next_list [] f = nil
+    next_list (x ∷ []) f = one x
+    next_list (x ∷ y ∷ xs) f =
+        rw (step x y xs) (and_both (test x y) (all (y ∷ xs)) (f 0 (omega arith)) (next_list (y ∷ xs) (λ i h. f (suc i) (omega arith))))
 
-    list-next : (xs : List A) → T (all xs) → (i : ℕ) → suc i < length xs → T (test (get_or xs i none) (get_or xs (suc i) none))
-    list-next [] t i h = absurd (not-suc-le-zero h)
-    list-next (x ∷ []) t i h = absurd (not-suc-le-zero (le_of_suc-le-suc h))
-    list-next (x ∷ y ∷ xs) t zero h = and_left (test x y) (all (y ∷ xs)) (rw (step x y xs) at t)
-    list-next (x ∷ y ∷ xs) t (suc i) h =
-        list-next (y ∷ xs) (and_right (test x y) (all (y ∷ xs)) (rw (step x y xs) at t)) i (le_of_suc-le-suc h)
+    list_next : (xs : List A) → T (all xs) → (i : ℕ) → suc i < length xs → T (test (get_or xs i none) (get_or xs (suc i) none))
+    list_next [] t i h = absurd (not-suc-le-zero h)
+    list_next (x ∷ []) t i h = absurd (not-suc-le-zero (le_of_suc-le-suc h))
+    list_next (x ∷ y ∷ xs) t zero h = and_left (test x y) (all (y ∷ xs)) (rw (step x y xs) at t)
+    list_next (x ∷ y ∷ xs) t (suc i) h =
+        list_next (y ∷ xs) (and_right (test x y) (all (y ∷ xs)) (rw (step x y xs) at t)) i (le_of_suc-le-suc h)
 
 -- each list with no wrong entry is a good one, and the other way round
-endpoints-good : (R M : ℕ) (xs : List ℕ) → length xs ≡ R + 1 → AllRight (endpointsAsked M) 0 xs → T (rising (R + 1) M xs)
-unfolding neverFalls
+endpoints-good : (R M : ℕ) (xs : List ℕ) → length xs ≡ R + 1 → AllRight (endpoints_asked M) 0 xs → T (rising (R + 1) M xs)
+unfolding never_falls
 endpoints-good R M xs e x =
     let same : R + 1 - 1 ≡ length xs - 1 = omega arith in
-    all-four (eqb (length xs) (R + 1)) (eqb (get_or xs 0 1) 0) (eqb (get_or xs (R + 1 - 1) 0) M) (neverFalls xs) (rw (eq-eqb (length xs) (R + 1) e) tt)
-    (rw (getD-there xs 0 1 0 (omega arith)) (x.first (omega arith))) (rw same (x.last (omega arith)))
-    (next-list neverFalls 0 leb tt (λ a. tt) (λ a b ys. refl) xs x.next)
+    all_four (eqb (length xs) (R + 1)) (eqb (get_or xs 0 1) 0) (eqb (get_or xs (R + 1 - 1) 0) M) (never_falls xs) (rw (eq-eqb (length xs) (R + 1) e) tt)
+    (rw (get_d_there xs 0 1 0 (omega arith)) (x.first (omega arith))) (rw same (x.last (omega arith)))
+    (next_list never_falls 0 leb tt (λ a. tt) (λ a b ys. refl) xs x.next)
 
-good-endpoints : (R M : ℕ) (xs : List ℕ) → T (rising (R + 1) M xs) → AllRight (endpointsAsked M) 0 xs
-unfolding neverFalls
+good-endpoints : (R M : ℕ) (xs : List ℕ) → T (rising (R + 1) M xs) → AllRight (endpoints_asked M) 0 xs
+unfolding never_falls
 good-endpoints R M xs t =
     let x = is-rising (R + 1) M xs t in
     let same : length xs - 1 ≡ R + 1 - 1 = omega arith in
     record {
       each = λ i h. tt;
       first = λ h. rw x.first tt;
-      next = list-next neverFalls 0 leb tt (λ a. tt) (λ a b ys. refl) xs x.never-falls;
+      next = list_next never_falls 0 leb tt (λ a. tt) (λ a b ys. refl) xs x.never_falls_lem;
       last = λ h. rw (same, x.final) (eqb_refl M);
     }
 
-heights-good : (R : ℕ) (ys : List Float) → length ys ≡ R + 1 → AllRight heightsAsked (literal 0 1) ys → T (heightList R ys)
-unfolding allFinite falls
+heights-good : (R : ℕ) (ys : List Float) → length ys ≡ R + 1 → AllRight heights_asked (literal 0 1) ys → T (height_list R ys)
+unfolding all_finite falls
 heights-good R ys e x =
     let long = eqb (length ys) (R + 1) in
     let high = lt (literal 999 1000) (get_or ys 0 (literal 0 1)) in
     let final : R ≡ length ys - 1 = omega arith in
-    and_both (long && allFinite ys && falls ys && high) (eq (get_or ys R (literal 1 1)) (literal 0 1))
-    (all-four long (allFinite ys) (falls ys) high (rw (eq-eqb (length ys) (R + 1) e) tt)
-    (each-list allFinite (literal 0 1) finite tt (λ a bs. refl) ys x.each)
-    (next-list falls (literal 0 1) (λ a b. lt b a) tt (λ a. tt) (λ a b cs. refl) ys x.next) (x.first (omega arith)))
-    (rw (getD-there ys R (literal 1 1) (literal 0 1) (omega arith), final) (x.last (omega arith)))
+    and_both (long && all_finite ys && falls ys && high) (eq (get_or ys R (literal 1 1)) (literal 0 1))
+    (all_four long (all_finite ys) (falls ys) high (rw (eq-eqb (length ys) (R + 1) e) tt)
+    (each_list all_finite (literal 0 1) finite tt (λ a bs. refl) ys x.each)
+    (next_list falls (literal 0 1) (λ a b. lt b a) tt (λ a. tt) (λ a b cs. refl) ys x.next) (x.first (omega arith)))
+    (rw (get_d_there ys R (literal 1 1) (literal 0 1) (omega arith), final) (x.last (omega arith)))
 
-good-heights : (R : ℕ) (ys : List Float) → T (heightList R ys) → T (eqb (length ys) (R + 1)) × AllRight heightsAsked (literal 0 1) ys
-unfolding allFinite falls
+good-heights : (R : ℕ) (ys : List Float) → T (height_list R ys) → T (eqb (length ys) (R + 1)) × AllRight heights_asked (literal 0 1) ys
+unfolding all_finite falls
 good-heights R ys t =
     let long = eqb (length ys) (R + 1) in
     let high = lt (literal 999 1000) (get_or ys 0 (literal 0 1)) in
     let low = eq (get_or ys R (literal 1 1)) (literal 0 1) in
-    let x = four long (allFinite ys) (falls ys) high (and_left (long && allFinite ys && falls ys && high) low t) in
+    let x = four long (all_finite ys) (falls ys) high (and_left (long && all_finite ys && falls ys && high) low t) in
     let e = eqb→eq (length ys) (R + 1) x.0 in
     let final : length ys - 1 ≡ R = omega arith in (
       x.0,
       record {
-        each = list-each allFinite (literal 0 1) finite tt (λ a bs. refl) ys x.1;
+        each = list_each all_finite (literal 0 1) finite tt (λ a bs. refl) ys x.1;
         first = λ h. x.3;
-        next = list-next falls (literal 0 1) (λ a b. lt b a) tt (λ a. tt) (λ a b cs. refl) ys x.2;
+        next = list_next falls (literal 0 1) (λ a b. lt b a) tt (λ a. tt) (λ a b cs. refl) ys x.2;
         last = λ h.
-            rw (final, getD-there ys R (literal 0 1) (literal 1 1) (omega arith)) (and_right (long && allFinite ys && falls ys && high) low t);
+            rw (final, get_d_there ys R (literal 0 1) (literal 1 1) (omega arith)) (and_right (long && all_finite ys && falls ys && high) low t);
       },
     )
 
-curve-good : (M : ℕ) (ps : List Float) → T (eqb (length ps) (M + 1)) → AllRight curveAsked (literal 0 1) ps → T (curveList M ps)
-unfolding allInUnit
+curve-good : (M : ℕ) (ps : List Float) → T (eqb (length ps) (M + 1)) → AllRight curve_asked (literal 0 1) ps → T (curve_list M ps)
+unfolding all_in_unit
 curve-good M ps t x =
-    and_both (eqb (length ps) (M + 1)) (allInUnit ps) t (each-list allInUnit (literal 0 1) inUnit tt (λ a bs. refl) ps x.each)
+    and_both (eqb (length ps) (M + 1)) (all_in_unit ps) t (each_list all_in_unit (literal 0 1) in_unit tt (λ a bs. refl) ps x.each)
 
-good-curve : (M : ℕ) (ps : List Float) → T (curveList M ps) → AllRight curveAsked (literal 0 1) ps
-unfolding allInUnit
+good-curve : (M : ℕ) (ps : List Float) → T (curve_list M ps) → AllRight curve_asked (literal 0 1) ps
+unfolding all_in_unit
 good-curve M ps t = record {
-  each = list-each allInUnit (literal 0 1) inUnit tt (λ a bs. refl) ps (and_right (eqb (length ps) (M + 1)) (allInUnit ps) t);
+  each = list_each all_in_unit (literal 0 1) in_unit tt (λ a bs. refl) ps (and_right (eqb (length ps) (M + 1)) (all_in_unit ps) t);
   first = λ h. tt;
   next = λ i h. tt;
   last = λ h. tt;
@@ -241,62 +241,62 @@ some-layers (suc n) t = omega arith
 
 module _ (M : ℕ) (t : Layers) where
   abbrev R : ℕ
-  R = layerCount t
+  R = layer_count t
 
   abbrev layers : Bool
   layers = eqb R 128 || eqb R 256 || eqb R 512
 
   -- the numbers that tables give, each with what it says of them
-  pub layer-numbers : (P : ℕ → Type 0) → (T (layerTables M t) → P 0) → P 13 → (wrongEndpoint M t < length t.endpoints → P 30)
-      → (wrongHeight t < length t.heights → P 31) → (wrongValue t < length t.curve → P 32) → P (layerNumber M t)
-  unfolding layerNumber
+  pub layer-numbers : (P : ℕ → Type 0) → (T (layer_tables M t) → P 0) → P 13 → (wrong_endpoint M t < length t.endpoints → P 30)
+      → (wrong_height t < length t.heights → P 31) → (wrong_value t < length t.curve → P 32) → P (layer_number M t)
+  unfolding layer_number
   layer-numbers P good sizes endpoint height value =
-      first-number P (not (rightSizes M t)) (ltb (wrongEndpoint M t) (length t.endpoints)) (ltb (wrongHeight t) (length t.heights))
-      (ltb (wrongValue t) (length t.curve)) (λ a b c d. good (whole a b c d)) (λ a. sizes)
-      (λ b. endpoint (ltb-true (wrongEndpoint M t) (length t.endpoints) b))
-      (λ c. height (ltb-true (wrongHeight t) (length t.heights) c)) (λ d. value (ltb-true (wrongValue t) (length t.curve) d))
+      first-number P (not (right_sizes M t)) (ltb (wrong_endpoint M t) (length t.endpoints)) (ltb (wrong_height t) (length t.heights))
+      (ltb (wrong_value t) (length t.curve)) (λ a b c d. good (whole a b c d)) (λ a. sizes)
+      (λ b. endpoint (ltb-true (wrong_endpoint M t) (length t.endpoints) b))
+      (λ c. height (ltb-true (wrong_height t) (length t.heights) c)) (λ d. value (ltb-true (wrong_value t) (length t.curve) d))
     where
-      whole : not (rightSizes M t) ≡ false → ltb (wrongEndpoint M t) (length t.endpoints) ≡ false
-          → ltb (wrongHeight t) (length t.heights) ≡ false → ltb (wrongValue t) (length t.curve) ≡ false → T (layerTables M t)
+      whole : not (right_sizes M t) ≡ false → ltb (wrong_endpoint M t) (length t.endpoints) ≡ false
+          → ltb (wrong_height t) (length t.heights) ≡ false → ltb (wrong_value t) (length t.curve) ≡ false → T (layer_tables M t)
       whole a b c d =
           let high = eqb (length t.heights) (R + 1) in
           let wide = eqb (length t.curve) (M + 1) in
-          let s : T (layers && high && wide) = rw (not-false (rightSizes M t) a) tt in
+          let s : T (layers && high && wide) = rw (not-false (right_sizes M t) a) tt in
           let l : T layers = and_left layers high (and_left (layers && high) wide s) in
           let h : T high = and_right layers high (and_left (layers && high) wide s) in
           let some = some-layers (length t.endpoints) l in
-          all-four layers (rising (R + 1) M t.endpoints) (heightList R t.heights) (curveList M t.curve) l
-          (endpoints-good R M t.endpoints (omega arith) (none-wrong (endpointsAsked M) 0 t.endpoints b))
-          (heights-good R t.heights (eqb→eq (length t.heights) (R + 1) h) (none-wrong heightsAsked (literal 0 1) t.heights c))
-          (curve-good M t.curve (and_right (layers && high) wide s) (none-wrong curveAsked (literal 0 1) t.curve d))
+          all_four layers (rising (R + 1) M t.endpoints) (height_list R t.heights) (curve_list M t.curve) l
+          (endpoints-good R M t.endpoints (omega arith) (none_wrong (endpoints_asked M) 0 t.endpoints b))
+          (heights-good R t.heights (eqb→eq (length t.heights) (R + 1) h) (none_wrong heights_asked (literal 0 1) t.heights c))
+          (curve-good M t.curve (and_right (layers && high) wide s) (none_wrong curve_asked (literal 0 1) t.curve d))
 
-  pub layer-good : layerNumber M t ≡ 0 → T (layerTables M t)
+  pub layer-good : layer_number M t ≡ 0 → T (layer_tables M t)
   layer-good =
-      layer-numbers (λ n. n ≡ 0 → T (layerTables M t)) (λ good e. good) (λ e. absurd (omega arith)) (λ h e. absurd (omega arith))
+      layer-numbers (λ n. n ≡ 0 → T (layer_tables M t)) (λ good e. good) (λ e. absurd (omega arith)) (λ h e. absurd (omega arith))
       (λ h e. absurd (omega arith)) (λ h e. absurd (omega arith))
 
-  pub good-layer : T (layerTables M t) → layerNumber M t ≡ 0
-  unfolding layerNumber
+  pub good-layer : T (layer_tables M t) → layer_number M t ≡ 0
+  unfolding layer_number
   good-layer good =
       let high = eqb (length t.heights) (R + 1) in
       let wide = eqb (length t.curve) (M + 1) in
-      let x = four layers (rising (R + 1) M t.endpoints) (heightList R t.heights) (curveList M t.curve) good in
+      let x = four layers (rising (R + 1) M t.endpoints) (height_list R t.heights) (curve_list M t.curve) good in
       let y = good-heights R t.heights x.2 in
-      no_number (rightSizes M t) (ltb (wrongEndpoint M t) (length t.endpoints)) (ltb (wrongHeight t) (length t.heights))
-      (ltb (wrongValue t) (length t.curve))
-      (and_both (layers && high) wide (and_both layers high x.0 y.0) (and_left wide (allInUnit t.curve) x.3))
-      (right-none (endpointsAsked M) 0 t.endpoints (good-endpoints R M t.endpoints x.1))
-      (right-none heightsAsked (literal 0 1) t.heights y.1) (right-none curveAsked (literal 0 1) t.curve (good-curve M t.curve x.3))
+      no_number (right_sizes M t) (ltb (wrong_endpoint M t) (length t.endpoints)) (ltb (wrong_height t) (length t.heights))
+      (ltb (wrong_value t) (length t.curve))
+      (and_both (layers && high) wide (and_both layers high x.0 y.0) (and_left wide (all_in_unit t.curve) x.3))
+      (right_none (endpoints_asked M) 0 t.endpoints (good-endpoints R M t.endpoints x.1))
+      (right_none heights_asked (literal 0 1) t.heights y.1) (right_none curve_asked (literal 0 1) t.curve (good-curve M t.curve x.3))
 
-  pub layer-apart-22 : layerNumber M t ≡ 22 → ⊥
-  layer-apart-22 =
+  pub layer_apart_22 : layer_number M t ≡ 22 → ⊥
+  layer_apart_22 =
       layer-numbers (λ n. n ≡ 22 → ⊥) (λ h e. omega arith) (λ e. omega arith) (λ h e. omega arith) (λ h e. omega arith) (λ h e. omega arith)
 
-  pub layer-apart-23 : layerNumber M t ≡ 23 → ⊥
-  layer-apart-23 =
+  pub layer_apart_23 : layer_number M t ≡ 23 → ⊥
+  layer_apart_23 =
       layer-numbers (λ n. n ≡ 23 → ⊥) (λ h e. omega arith) (λ e. omega arith) (λ h e. omega arith) (λ h e. omega arith) (λ h e. omega arith)
 
   -- a number below these names no index
-  pub layer-unnamed : (k : ℕ) → k < 30 → layerIndex M t k ≡ 0
-  unfolding layerIndex
-  layer-unnamed k h = rw (ne_eqb k 30 (λ e. omega arith), ne_eqb k 31 (λ e. omega arith), ne_eqb k 32 (λ e. omega arith))
+  pub layer_unnamed : (k : ℕ) → k < 30 → layer_index M t k ≡ 0
+  unfolding layer_index
+  layer_unnamed k h = rw (ne_eqb k 30 (λ e. omega arith), ne_eqb k 31 (λ e. omega arith), ne_eqb k 32 (λ e. omega arith))

@@ -14,17 +14,17 @@ use lib.Ieee.Fits.{and_l, and_r, down_pos}
 use lib.Ieee.Positive.{num, den, positive, own_value, positive_of_value, values_of_le}
 use lib.Ieee.Scale.{finite}
 use Rattle.distr.specs.Constants.{literal}
-use Rattle.distr.specs.Layered.{inUnit}
-use Rattle.distr.specs.Making.{badProbability}
+use Rattle.distr.specs.Layered.{in_unit}
+use Rattle.distr.specs.Making.{bad_probability}
 use Rattle.distr.specs.Thresholds.{threshold}
 
 -- what is not below zero and yet has a minus sign is zero
-minus-zero : (z : Float) (m : ℕ) (e : ℤ) → HasValue z false 0 1 → T (le z (fin true m e)) → m * up e ≡ 0
+minus_zero : (z : Float) (m : ℕ) (e : ℤ) → HasValue z false 0 1 → T (le z (fin true m e)) → m * up e ≡ 0
 unfolding le
-minus-zero nan m e v h = absurd v
-minus-zero (inf s) m e v h = absurd v
-minus-zero (fin true n d) m e v h = absurd (true≢false v.0)
-minus-zero (fin false n d) m e v h = go (eq-zero-or-pos (m * up e))
+minus_zero nan m e v h = absurd v
+minus_zero (inf s) m e v h = absurd v
+minus_zero (fin true n d) m e v h = absurd (true≢false v.0)
+minus_zero (fin false n d) m e v h = go (eq-zero-or-pos (m * up e))
   where
     left : ℕ
     left = n * up d * down e
@@ -43,12 +43,12 @@ minus-zero (fin false n d) m e v h = go (eq-zero-or-pos (m * up e))
     go (inr l) = absurd (omega (arith, equal, none, mul-pos l (down_pos d)))
 
 -- the exact fraction of a probability is at most 1
-num-le-den : (p : Float) → T (finite p) → T (inUnit p) → num p ≤ den p
+num-le-den : (p : Float) → T (finite p) → T (in_unit p) → num p ≤ den p
 num-le-den nan f h = absurd f
 num-le-den (inf s) f h = absurd f
 num-le-den (fin true m e) f h =
     let above : T (le (literal 0 1) (fin true m e)) = and_l (le (literal 0 1) (fin true m e)) (le (fin true m e) (literal 1 1)) h in
-    let z : m * up e ≡ 0 = minus-zero (literal 0 1) m e (round_whole binary64 false 0 (omega arith)) above in
+    let z : m * up e ≡ 0 = minus_zero (literal 0 1) m e (round_whole binary64 false 0 (omega arith)) above in
     omega arith
 num-le-den (fin false m e) f h = go (eq-zero-or-pos m)
   where
@@ -68,8 +68,8 @@ num-le-den (fin false m e) f h = go (eq-zero-or-pos m)
         omega arith
 
 -- the threshold of a probability is at most 2^64
-pub threshold-le : (p : Float) → T (not (badProbability p)) → threshold p ≤ 2 ^ 64
+pub threshold-le : (p : Float) → T (not (bad_probability p)) → threshold p ≤ 2 ^ 64
 threshold-le p t =
-    let good : T (finite p && inUnit p) = rw (not-not (finite p && inUnit p)) at t in
-    let k : num p ≤ den p = num-le-den p (and_l (finite p) (inUnit p) good) (and_r (finite p) (inUnit p) good) in
+    let good : T (finite p && in_unit p) = rw (not-not (finite p && in_unit p)) at t in
+    let k : num p ≤ den p = num-le-den p (and_l (finite p) (in_unit p) good) (and_r (finite p) (in_unit p) good) in
     div-le_of_le-mul (den p) (mul-le-mul_right (2 ^ 64) k)

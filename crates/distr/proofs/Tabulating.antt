@@ -10,7 +10,7 @@ use lib.ListN.{length, get_or, set, take, drop, length-append, get_or-append}
 use lib.Seq.{get_or_at, get_or-drop}
 use Rattle.distr.specs.CenteredBinomial.{total}
 use Rattle.distr.specs.SamplePolyCbd.{tabulate, sum_to}
-use Rattle.distr.proofs.Writing.{written, written-length, written-more, written_all}
+use Rattle.distr.proofs.Writing.{written, written-length, written_more, written_all}
 
 module _ {A : Type 0} (g : ℕ → A) where
   pub length-tabulate : (n : ℕ) → length (tabulate n g) ≡ n
@@ -34,11 +34,11 @@ module _ {A : Type 0} (g : ℕ → A) where
   pub tabulated-length : (n i : ℕ) (out : List A) → length out ≡ n → i ≤ n → length (tabulated n i out) ≡ n
   tabulated-length n i out e h = written-length (tabulate n g) out i (omega (arith, length-tabulate n)) (omega arith) ∙ e
 
-  pub tabulated-more : (n i : ℕ) (out now : List A) (a : A) → length out ≡ n → i < n → now ≡ tabulated n i out → a ≡ g i
+  pub tabulated_more : (n i : ℕ) (out now : List A) (a : A) → length out ≡ n → i < n → now ≡ tabulated n i out → a ≡ g i
       → set now i a ≡ tabulated n (i + 1) out
-  tabulated-more n i out now a e h w v =
+  tabulated_more n i out now a e h w v =
       ap₂ (λ l b. set l i b) w (v ∙ sym (get_d_tabulate n i a h))
-      ∙ written-more (tabulate n g) out i a (omega (arith, length-tabulate n)) (omega arith)
+      ∙ written_more (tabulate n g) out i a (omega (arith, length-tabulate n)) (omega arith)
       ∙ ap (λ k. tabulated n k out) (sym (add-one i))
 
   pub tabulated-all : (n i : ℕ) (out now : List A) → length out ≡ n → i ≡ n → now ≡ tabulated n i out → now ≡ tabulate n g
@@ -46,21 +46,21 @@ module _ {A : Type 0} (g : ℕ → A) where
       w ∙ ap (λ k. tabulated n k out) (f ∙ sym e) ∙ written_all (tabulate n g) out (length-tabulate n ∙ sym e)
 
 -- two sums that agree term by term
-pub sumTo-ext : (n : ℕ) (g h : ℕ → ℕ) → ((j : ℕ) → j < n → g j ≡ h j) → sum_to n g ≡ sum_to n h
+pub sum_to_ext : (n : ℕ) (g h : ℕ → ℕ) → ((j : ℕ) → j < n → g j ≡ h j) → sum_to n g ≡ sum_to n h
 unfolding sum_to
-sumTo-ext zero g h e = refl
-sumTo-ext (suc n) g h e = ap₂ ◌+◌ (sumTo-ext n g h (λ j l. e j (omega arith))) (e n (omega arith))
+sum_to_ext zero g h e = refl
+sum_to_ext (suc n) g h e = ap₂ ◌+◌ (sum_to_ext n g h (λ j l. e j (omega arith))) (e n (omega arith))
 
 -- the sum of one element more
-total-more : (n : ℕ) (xs : List ℕ) → total (take (suc n) xs) ≡ total (take n xs) + get_or xs n 0
+total_more : (n : ℕ) (xs : List ℕ) → total (take (suc n) xs) ≡ total (take n xs) + get_or xs n 0
 unfolding total
-total-more zero [] = refl
-total-more zero (x ∷ xs) = omega arith
-total-more (suc n) [] = refl
-total-more (suc n) (x ∷ xs) = omega (arith, total-more n xs)
+total_more zero [] = refl
+total_more zero (x ∷ xs) = omega arith
+total_more (suc n) [] = refl
+total_more (suc n) (x ∷ xs) = omega (arith, total_more n xs)
 
 -- the sum of the n elements from the k-th on; past the end they are 0
 pub total-part : (n k : ℕ) (xs : List ℕ) → total (take n (drop k xs)) ≡ sum_to n (λ j. get_or xs (k + j) 0)
 unfolding total sum_to
 total-part zero k xs = refl
-total-part (suc n) k xs = total-more n (drop k xs) ∙ ap₂ ◌+◌ (total-part n k xs) (get_or-drop k xs n 0)
+total-part (suc n) k xs = total_more n (drop k xs) ∙ ap₂ ◌+◌ (total-part n k xs) (get_or-drop k xs n 0)

@@ -19,8 +19,8 @@ module _ {A : Type 0} where
   written-length xs out i h k = simp (length-append, length-take, length-drop) (omega arith)
 
   -- one store more
-  pub written-more : (xs out : List A) (i : ℕ) (d : A) → i < length xs → i < length out → set (written xs i out) i (get_or xs i d) ≡ written xs (suc i) out
-  written-more xs out i d h k =
+  pub written_more : (xs out : List A) (i : ℕ) (d : A) → i < length xs → i < length out → set (written xs i out) i (get_or xs i d) ≡ written xs (suc i) out
+  written_more xs out i d h k =
       ap (λ (l : List A). set (take i xs ++ l) i (get_or xs i d)) (drop-cons out i d k)
       ∙ set_at (take i xs) (get_or out i d) (drop (suc i) out) (get_or xs i d) i (length-take-le i xs (omega arith))
       ∙ sym (append_snoc (take i xs) (get_or xs i d) (drop (suc i) out))
@@ -43,9 +43,9 @@ pub map-map : {A B C : Type 0} (g : B → C) (f : A → B) (xs : List A) → map
 map-map g f [] = refl
 map-map g f (x ∷ xs) = ap (λ l. g (f x) ∷ l) (map-map g f xs)
 
-pub map-id : {A : Type 0} (xs : List A) → map (λ x. x) xs ≡ xs
-map-id [] = refl
-map-id (x ∷ xs) = ap (λ l. x ∷ l) (map-id xs)
+pub map_id : {A : Type 0} (xs : List A) → map (λ x. x) xs ≡ xs
+map_id [] = refl
+map_id (x ∷ xs) = ap (λ l. x ∷ l) (map_id xs)
 
 pub map-take : {A B : Type 0} (f : A → B) (n : ℕ) (xs : List A) → map f (take n xs) ≡ take n (map f xs)
 map-take f zero xs = refl
@@ -57,13 +57,13 @@ map-drop f zero xs = refl
 map-drop f (suc n) [] = refl
 map-drop f (suc n) (x ∷ xs) = map-drop f n xs
 
-pub map-append : {A B : Type 0} (f : A → B) (xs ys : List A) → map f (xs ++ ys) ≡ map f xs ++ map f ys
-map-append f [] ys = refl
-map-append f (x ∷ xs) ys = ap (λ l. f x ∷ l) (map-append f xs ys)
+pub map_append : {A B : Type 0} (f : A → B) (xs ys : List A) → map f (xs ++ ys) ≡ map f xs ++ map f ys
+map_append f [] ys = refl
+map_append f (x ∷ xs) ys = ap (λ l. f x ∷ l) (map_append f xs ys)
 
-pub map-ext : {A B : Type 0} (f g : A → B) → ((a : A) → f a ≡ g a) → (xs : List A) → map f xs ≡ map g xs
-map-ext f g h [] = refl
-map-ext f g h (x ∷ xs) = ap₂ (λ a as'. a ∷ as') (h x) (map-ext f g h xs)
+pub map_ext : {A B : Type 0} (f g : A → B) → ((a : A) → f a ≡ g a) → (xs : List A) → map f xs ≡ map g xs
+map_ext f g h [] = refl
+map_ext f g h (x ∷ xs) = ap₂ (λ a as'. a ∷ as') (h x) (map_ext f g h xs)
 
 pub map-set : {A B : Type 0} (f : A → B) (xs : List A) (i : ℕ) (a : A) → map f (set xs i a) ≡ set (map f xs) i (f a)
 map-set f [] i a = refl
@@ -75,12 +75,12 @@ pub fill_more : {A : Type 0} (v : A) (out : List A) (i : ℕ) → i < length out
     → set (written (replicate (length out) v) i out) i v ≡ written (replicate (length out) v) (i + 1) out
 fill_more v out i h =
     ap (set (written (replicate (length out) v) i out) i) (sym (get_or-replicate (length out) i v v h))
-    ∙ written-more (replicate (length out) v) out i v (rw (length-replicate (length out) v) h) h
+    ∙ written_more (replicate (length out) v) out i v (rw (length-replicate (length out) v) h) h
     ∙ ap (λ (k : ℕ). written (replicate (length out) v) k out) (sym (add-one i))
 
-pub fill-all : {A : Type 0} (v : A) (out now : List A) (i : ℕ) → i ≡ length out → now ≡ written (replicate (length out) v) i out
+pub fill_all : {A : Type 0} (v : A) (out now : List A) (i : ℕ) → i ≡ length out → now ≡ written (replicate (length out) v) i out
     → now ≡ replicate (length out) v
-fill-all v out now i e w =
+fill_all v out now i e w =
     w ∙ ap (λ (k : ℕ). written (replicate (length out) v) k out) e ∙ written_all (replicate (length out) v) out (length-replicate (length out) v)
 
 -- the first of many equal elements

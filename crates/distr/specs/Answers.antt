@@ -4,21 +4,21 @@ use Rattle.distr.specs.declared.answer.Answer.{Answer}
 use Rattle.distr.specs.Skipped.{Skipped, nothing}
 
 -- "Success is number 0 and the new place", and the sums; 02 [6]: "index 0 accompanies every other number".
-abbrev pub successAfter : ℕ → Skipped → Answer
-successAfter place s = record { number = 0; place = place; index = 0; skipped_words = s.words; skipped_bytes = s.bytes }
+abbrev pub success_after : ℕ → Skipped → Answer
+success_after place s = record { number = 0; place = place; index = 0; skipped_words = s.words; skipped_bytes = s.bytes }
 
 -- A success that skipped nothing.
 abbrev pub success : ℕ → Answer
-success place = successAfter place nothing
+success place = success_after place nothing
 
 -- A refusal: its number, and the place as it was ("all but 23 change neither place nor output"; "23 keeps the place"); 02 [1]: "a refused
 -- call reports zeros"; 02 [6]: 30, 31 and 32 come "each together with the first index that is wrong".
-abbrev pub refusalAt : ℕ → ℕ → ℕ → Answer
-refusalAt number place index = record { number = number; place = place; index = index; skipped_words = 0; skipped_bytes = 0 }
+abbrev pub refusal_at : ℕ → ℕ → ℕ → Answer
+refusal_at number place index = record { number = number; place = place; index = index; skipped_words = 0; skipped_bytes = 0 }
 
 -- 02 [6]: "index 0 accompanies every other number".
 abbrev pub refusal : ℕ → ℕ → Answer
-refusal number place = refusalAt number place 0
+refusal number place = refusal_at number place 0
 
 -- 02 [1]: a draw "hands both sums back beside the place".
 abbrev pub sums : Answer → Skipped

@@ -2,8 +2,8 @@
 use Rattle.std.specs.Prelude.{ℕ, suc, ◌/◌, List, [], ◌∷◌, ◌++◌, set, replicate, ℤ, pos}
 use Rattle.distr.specs.declared.secret_key_distr.BlockOccupancy.{BlockOccupancy}
 use Rattle.distr.specs.declared.secret_key_distr.BlockOccupancy.TheVariants.{AtMostOne, ExactlyOne}
-use Rattle.distr.specs.Words.{chooseEach}
-use Rattle.distr.specs.Skipped.{skippedWords, passedEach}
+use Rattle.distr.specs.Words.{choose_each}
+use Rattle.distr.specs.Skipped.{skipped_words, passed_each}
 use Rattle.distr.specs.Rule.{Rule}
 
 -- "A value below the block size, or below that plus 1 with `AtMostOne`."
@@ -15,14 +15,14 @@ categories size ExactlyOne = size
 abbrev pub block : ℕ → ℕ → List ℤ
 block size s = set (replicate size (pos 0)) s (pos 1)
 
-unfoldable pub blocksOf : ℕ → List ℕ → List ℤ
-blocksOf size [] = []
-blocksOf size (s ∷ ss) = block size s ++ blocksOf size ss
+unfoldable pub blocks_of : ℕ → List ℕ → List ℤ
+blocks_of size [] = []
+blocks_of size (s ∷ ss) = block size s ++ blocks_of size ss
 
-abbrev pub blockBinary : ℕ → BlockOccupancy → ℕ → Rule
-blockBinary size occupancy n = record {
+abbrev pub block_binary : ℕ → BlockOccupancy → ℕ → Rule
+block_binary size occupancy n = record {
   ranges = replicate (n / size) (categories size occupancy);
-  draws = chooseEach (replicate (n / size) (categories size occupancy));
-  decode = blocksOf size;
-  skips = λ ws. skippedWords (passedEach (replicate (n / size) (categories size occupancy)) ws);
+  draws = choose_each (replicate (n / size) (categories size occupancy));
+  decode = blocks_of size;
+  skips = λ ws. skipped_words (passed_each (replicate (n / size) (categories size occupancy)) ws);
 }

@@ -7,9 +7,9 @@ encode modulus (pos m) = m
 encode modulus (negsuc m) = modulus - suc m
 
 -- A coefficient by the caller's encoding of −1, as `modulus_minus_one` is in the Rust: `minus` is modulus − 1, so that −m is `minus` less m − 1.
-abbrev pub encodeWith : ℕ → ℤ → ℕ
-encodeWith minus (pos m) = m
-encodeWith minus (negsuc m) = minus - m
+abbrev pub encode_with : ℕ → ℤ → ℕ
+encode_with minus (pos m) = m
+encode_with minus (negsuc m) = minus - m
 
 -- "CRT row i, column c is at i × coefficients + c": a row of residues for each modulus.
 unfoldable pub rows : List ℕ → List ℤ → List ℕ
@@ -18,13 +18,13 @@ rows (modulus ∷ moduli) cs = map (encode modulus) cs ++ rows moduli cs
 
 -- Whether an output of n elements has the shape of coefficients × moduli, and a row of this number.
 abbrev pub has_row : ℕ → ℕ → ℕ → ℕ → Bool
-has_row n coefficientCount moduli i = eqb n (coefficientCount * moduli) && ltb i moduli
+has_row n coefficient_count moduli i = eqb n (coefficient_count * moduli) && ltb i moduli
 
 -- "The row of one modulus is handed back as that part of the output; a row number out of range, or a wrong shape, gives the empty part at
 -- its start": the index at which the part starts, and what stands in it.
-abbrev pub rowStart : ℕ → ℕ → ℕ → ℕ → ℕ
-rowStart n coefficientCount moduli i = cond (has_row n coefficientCount moduli i) (i * coefficientCount) 0
+abbrev pub row_start : ℕ → ℕ → ℕ → ℕ → ℕ
+row_start n coefficient_count moduli i = cond (has_row n coefficient_count moduli i) (i * coefficient_count) 0
 
 abbrev pub row : List ℕ → ℕ → ℕ → ℕ → List ℕ
-row output coefficientCount moduli i =
-    cond (has_row (length output) coefficientCount moduli i) (take coefficientCount (drop (i * coefficientCount) output)) []
+row output coefficient_count moduli i =
+    cond (has_row (length output) coefficient_count moduli i) (take coefficient_count (drop (i * coefficient_count) output)) []

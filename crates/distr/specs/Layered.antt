@@ -3,8 +3,8 @@ use Rattle.std.specs.Prelude.{ℕ, zero, suc, ◌+◌, ◌-◌, ◌^◌, Bool, t
 use Rattle.std.specs.Float.{binary64}
 use Rattle.std.specs.Float.Ieee.{mul, sub, add, div, neg, lt, le, eq, of_int}
 use Rattle.std.specs.Float.Ieee.Scale.{finite}
-use Rattle.distr.specs.Words.{Read, got, short, mapRead, bindRead, word, choose, coin, chance, many}
-use Rattle.distr.specs.Skipped.{passedOver, passedAfter, passedMany}
+use Rattle.distr.specs.Words.{Read, got, short, map_read, bind_read, word, choose, coin, chance, many}
+use Rattle.distr.specs.Skipped.{passed_over, passed_after, passed_many}
 use Rattle.distr.specs.Thresholds.{threshold}
 use Rattle.distr.specs.Constants.{literal}
 use Rattle.distr.specs.Gaussian.{rising, with_sign}
@@ -16,8 +16,8 @@ pub record Layers : Type 0 where
   pub curve : List Float
 
 -- "R is 128, 256 or 512": the number of endpoints less one.
-abbrev pub layerCount : Layers → ℕ
-layerCount t = length t.endpoints - 1
+abbrev pub layer_count : Layers → ℕ
+layer_count t = length t.endpoints - 1
 
 -- Each element is below the one before it.
 unfoldable pub falls : List Float → Bool
@@ -25,31 +25,31 @@ falls [] = true
 falls (a ∷ []) = true
 falls (a ∷ b ∷ xs) = lt b a && falls (b ∷ xs)
 
-unfoldable pub allFinite : List Float → Bool
-allFinite [] = true
-allFinite (x ∷ xs) = finite x && allFinite xs
+unfoldable pub all_finite : List Float → Bool
+all_finite [] = true
+all_finite (x ∷ xs) = finite x && all_finite xs
 
 -- "In 0..1", both ends in.
-abbrev pub inUnit : Float → Bool
-inUnit x = le (literal 0 1) x && le x (literal 1 1)
+abbrev pub in_unit : Float → Bool
+in_unit x = le (literal 0 1) x && le x (literal 1 1)
 
-unfoldable pub allInUnit : List Float → Bool
-allInUnit [] = true
-allInUnit (x ∷ xs) = inUnit x && allInUnit xs
+unfoldable pub all_in_unit : List Float → Bool
+all_in_unit [] = true
+all_in_unit (x ∷ xs) = in_unit x && all_in_unit xs
 
 -- "R+1 heights (finite, falling at each step, first above 0.999, last 0)."
-abbrev pub heightList : ℕ → List Float → Bool
-heightList R ys =
-    eqb (length ys) (R + 1) && allFinite ys && falls ys && lt (literal 999 1000) (get_or ys 0 (literal 0 1)) && eq (get_or ys R (literal 1 1)) (literal 0 1)
+abbrev pub height_list : ℕ → List Float → Bool
+height_list R ys =
+    eqb (length ys) (R + 1) && all_finite ys && falls ys && lt (literal 999 1000) (get_or ys 0 (literal 0 1)) && eq (get_or ys R (literal 1 1)) (literal 0 1)
 
 -- "M+1 curve values in 0..1."
-abbrev pub curveList : ℕ → List Float → Bool
-curveList M ps = eqb (length ps) (M + 1) && allInUnit ps
+abbrev pub curve_list : ℕ → List Float → Bool
+curve_list M ps = eqb (length ps) (M + 1) && all_in_unit ps
 
-abbrev pub layerTables : ℕ → Layers → Bool
-layerTables M t =
-    let R = layerCount t in
-    (eqb R 128 || eqb R 256 || eqb R 512) && rising (R + 1) M t.endpoints && heightList R t.heights && curveList M t.curve
+abbrev pub layer_tables : ℕ → Layers → Bool
+layer_tables M t =
+    let R = layer_count t in
+    (eqb R 128 || eqb R 256 || eqb R 512) && rising (R + 1) M t.endpoints && height_list R t.heights && curve_list M t.curve
 
 -- A number as an f64, and the three tables as `sample` reads them: x, y and `pdf`, "read from the curve".
 abbrev pub float : ℕ → Float
@@ -108,15 +108,15 @@ abbrev pub accepts : Float → Layers → ℕ → ℕ → ℕ → Bool
 accepts deviation t i m u = under (region deviation t i) t i m (mul binary64 (difference t i) (float u))
 
 -- "Magnitude 0 passes by the threshold of 0.5 / first height."
-abbrev pub zeroThreshold : Layers → ℕ
-zeroThreshold t = threshold (div binary64 (literal 1 2) (y t 0))
+abbrev pub zero_threshold : Layers → ℕ
+zero_threshold t = threshold (div binary64 (literal 1 2) (y t 0))
 
 -- Whether a proposed magnitude on layer i passes: inside the layer above without reading, 0 by its threshold, else by a word.
 abbrev pub judge : Float → Layers → ℕ → ℕ → List ℕ → Read Bool
 judge deviation t i m ws =
     cond (le (float m) (x t (i - 1)) && ltb 0 m) (got true ws)
-    (cond (eqb m 0) (chance (zeroThreshold t) ws)
-    (mapRead (λ u. accepts deviation t i m u) (word ws)))
+    (cond (eqb m 0) (chance (zero_threshold t) ws)
+    (map_read (λ u. accepts deviation t i m u) (word ws)))
 
 -- What a try gives: a coefficient, or nothing, and then another try follows.
 pub data Tried : Type 0 where
@@ -126,10 +126,10 @@ pub data Tried : Type 0 where
 -- "A try chooses the layer among R, plus 1, then a coin (yes is positive), then a magnitude among endpoint + 1."
 unfoldable pub try : Float → Layers → List ℕ → Read Tried
 try deviation t ws =
-    bindRead (choose (layerCount t) ws) (λ layer ws₁.
-    bindRead (coin ws₁) (λ positive ws₂.
-    bindRead (choose (suc (get_or t.endpoints (layer + 1) 0)) ws₂) (λ m ws₃.
-    mapRead (λ passed. cond passed (kept (with_sign positive m)) rejected) (judge deviation t (layer + 1) m ws₃))))
+    bind_read (choose (layer_count t) ws) (λ layer ws₁.
+    bind_read (coin ws₁) (λ positive ws₂.
+    bind_read (choose (suc (get_or t.endpoints (layer + 1) 0)) ws₂) (λ m ws₃.
+    map_read (λ passed. cond passed (kept (with_sign positive m)) rejected) (judge deviation t (layer + 1) m ws₃))))
 
 -- The coefficient of a try that is kept, or what follows from the words left.
 unfoldable pub or_else : Read Tried → (List ℕ → Read ℤ) → Read ℤ
@@ -144,33 +144,33 @@ tries (suc most) deviation t ws = or_else (try deviation t ws) (λ rest. tries m
 
 -- A coefficient. A try reads a word or lacks one, so as many tries as there are words left are as many as there can be: no larger bound
 -- gives another answer (`tries-enough` in ziggurat/proofs/Trying).
-abbrev pub layeredOne : Float → Layers → List ℕ → Read ℤ
-layeredOne deviation t ws = tries (length ws) deviation t ws
+abbrev pub layered_one : Float → Layers → List ℕ → Read ℤ
+layered_one deviation t ws = tries (length ws) deviation t ws
 
 abbrev pub layered : Float → Layers → ℕ → List ℕ → Read (List ℤ)
-layered deviation t n ws = many (layeredOne deviation t) n ws
+layered deviation t n ws = many (layered_one deviation t) n ws
 
 -- 02 [1], "a word that a choice inside such a try passes over": the layer's choice and the magnitude's. The coin's word and those of the judging are
 -- used, not skipped.
-unfoldable pub passedTry : Layers → List ℕ → ℕ
-passedTry t ws =
-    passedOver (layerCount t) ws + passedAfter (choose (layerCount t) ws) (λ layer ws₁.
-    passedAfter (coin ws₁) (λ positive ws₂. passedOver (suc (get_or t.endpoints (layer + 1) 0)) ws₂))
+unfoldable pub passed_try : Layers → List ℕ → ℕ
+passed_try t ws =
+    passed_over (layer_count t) ws + passed_after (choose (layer_count t) ws) (λ layer ws₁.
+    passed_after (coin ws₁) (λ positive ws₂. passed_over (suc (get_or t.endpoints (layer + 1) 0)) ws₂))
 
 -- What the tries after a rejected one pass over; no try follows one that is kept or lacks a word.
-unfoldable pub passedElse : Read Tried → (List ℕ → ℕ) → ℕ
-passedElse short again = 0
-passedElse (got (kept v) rest) again = 0
-passedElse (got rejected rest) again = again rest
+unfoldable pub passed_else : Read Tried → (List ℕ → ℕ) → ℕ
+passed_else short again = 0
+passed_else (got (kept v) rest) again = 0
+passed_else (got rejected rest) again = again rest
 
 -- What the tries of `tries` pass over: "rejected tries of the layered Gaussian are not skipped words".
-unfoldable pub passedTries : ℕ → Float → Layers → List ℕ → ℕ
-passedTries zero deviation t ws = 0
-passedTries (suc most) deviation t ws = passedTry t ws + passedElse (try deviation t ws) (λ rest. passedTries most deviation t rest)
+unfoldable pub passed_tries : ℕ → Float → Layers → List ℕ → ℕ
+passed_tries zero deviation t ws = 0
+passed_tries (suc most) deviation t ws = passed_try t ws + passed_else (try deviation t ws) (λ rest. passed_tries most deviation t rest)
 
 -- What a coefficient passes over, and n of them.
-abbrev pub passedOne : Float → Layers → List ℕ → ℕ
-passedOne deviation t ws = passedTries (length ws) deviation t ws
+abbrev pub passed_one : Float → Layers → List ℕ → ℕ
+passed_one deviation t ws = passed_tries (length ws) deviation t ws
 
-abbrev pub passedLayered : Float → Layers → ℕ → List ℕ → ℕ
-passedLayered deviation t n ws = passedMany (layeredOne deviation t) (passedOne deviation t) n ws
+abbrev pub passed_layered : Float → Layers → ℕ → List ℕ → ℕ
+passed_layered deviation t n ws = passed_many (layered_one deviation t) (passed_one deviation t) n ws

@@ -12,29 +12,29 @@ abbrev pub nothing : Skipped
 nothing = record { words = 0; bytes = 0 }
 
 -- A sum of words alone.
-abbrev pub skippedWords : ℕ → Skipped
-skippedWords k = record { words = k; bytes = 0 }
+abbrev pub skipped_words : ℕ → Skipped
+skipped_words k = record { words = k; bytes = 0 }
 
 -- A sum of bytes alone.
-abbrev pub skippedBytes : ℕ → Skipped
-skippedBytes k = record { words = 0; bytes = k }
+abbrev pub skipped_bytes : ℕ → Skipped
+skipped_bytes k = record { words = 0; bytes = k }
 
 -- "Each choice among k reports the words it passed over": a word that is not below k × ⌊2^32/k⌋ is one more, the word taken is none.
-unfoldable pub passedOver : ℕ → List ℕ → ℕ
-passedOver k [] = 0
-passedOver k (w ∷ ws) = cond (ltb w (k * (2 ^ 32 / k))) 0 (suc (passedOver k ws))
+unfoldable pub passed_over : ℕ → List ℕ → ℕ
+passed_over k [] = 0
+passed_over k (w ∷ ws) = cond (ltb w (k * (2 ^ 32 / k))) 0 (suc (passed_over k ws))
 
 -- What is passed over after a reading, from the words left; nothing follows one that lacks a word.
-unfoldable pub passedAfter : {A : Type 0} → Read A → (A → List ℕ → ℕ) → ℕ
-passedAfter (got a rest) next = next a rest
-passedAfter short next = 0
+unfoldable pub passed_after : {A : Type 0} → Read A → (A → List ℕ → ℕ) → ℕ
+passed_after (got a rest) next = next a rest
+passed_after short next = 0
 
--- What the choices of `chooseEach` pass over.
-unfoldable pub passedEach : List ℕ → List ℕ → ℕ
-passedEach [] ws = 0
-passedEach (k ∷ ks) ws = passedOver k ws + passedAfter (choose k ws) (λ s rest. passedEach ks rest)
+-- What the choices of `choose_each` pass over.
+unfoldable pub passed_each : List ℕ → List ℕ → ℕ
+passed_each [] ws = 0
+passed_each (k ∷ ks) ws = passed_over k ws + passed_after (choose k ws) (λ s rest. passed_each ks rest)
 
 -- What the m readings of `many` pass over, each so many as `passed` counts.
-unfoldable pub passedMany : {A : Type 0} → (List ℕ → Read A) → (List ℕ → ℕ) → ℕ → List ℕ → ℕ
-passedMany one passed zero ws = 0
-passedMany one passed (suc m) ws = passed ws + passedAfter (one ws) (λ a rest. passedMany one passed m rest)
+unfoldable pub passed_many : {A : Type 0} → (List ℕ → Read A) → (List ℕ → ℕ) → ℕ → List ℕ → ℕ
+passed_many one passed zero ws = 0
+passed_many one passed (suc m) ws = passed ws + passed_after (one ws) (λ a rest. passed_many one passed m rest)

@@ -7,19 +7,19 @@ pub data Read (A : Type 0) : Type 0 where
   short : Read A
 
 -- The value read, changed by f.
-unfoldable pub mapRead : {A B : Type 0} → (A → B) → Read A → Read B
-mapRead f (got a rest) = got (f a) rest
-mapRead f short = short
+unfoldable pub map_read : {A B : Type 0} → (A → B) → Read A → Read B
+map_read f (got a rest) = got (f a) rest
+map_read f short = short
 
 -- A reading, and then one that goes on with its value and the words left.
-unfoldable pub bindRead : {A B : Type 0} → Read A → (A → List ℕ → Read B) → Read B
-bindRead (got a rest) next = next a rest
-bindRead short next = short
+unfoldable pub bind_read : {A B : Type 0} → Read A → (A → List ℕ → Read B) → Read B
+bind_read (got a rest) next = next a rest
+bind_read short next = short
 
 -- "Words are a lent list of u32."
-unfoldable pub areWords : List ℕ → Bool
-areWords [] = true
-areWords (w ∷ ws) = ltb w (2 ^ 32) && areWords ws
+unfoldable pub are_words : List ℕ → Bool
+are_words [] = true
+are_words (w ∷ ws) = ltb w (2 ^ 32) && are_words ws
 
 -- The next word.
 unfoldable pub word : List ℕ → Read ℕ
@@ -39,18 +39,18 @@ choose k (w ∷ ws) = cond (ltb w (k * (2 ^ 32 / k))) (got (w % k) ws) (choose k
 
 -- "A coin is yes for a word of 2^31 or more."
 unfoldable pub coin : List ℕ → Read Bool
-coin ws = mapRead (λ w. leb (2 ^ 31) w) (word ws)
+coin ws = map_read (λ w. leb (2 ^ 31) w) (word ws)
 
 -- "Yes is a 64-bit word below it, and threshold 2^64 says yes without reading."
 unfoldable pub chance : ℕ → List ℕ → Read Bool
-chance threshold ws = cond (eqb threshold (2 ^ 64)) (got true ws) (mapRead (λ w. ltb w threshold) (wide ws))
+chance threshold ws = cond (eqb threshold (2 ^ 64)) (got true ws) (map_read (λ w. ltb w threshold) (wide ws))
 
 -- m readings of one kind, one after the other, and their values in that order.
 unfoldable pub many : {A : Type 0} → (List ℕ → Read A) → ℕ → List ℕ → Read (List A)
 many one zero ws = got [] ws
-many one (suc m) ws = bindRead (one ws) (λ a rest. mapRead (λ rs. a ∷ rs) (many one m rest))
+many one (suc m) ws = bind_read (one ws) (λ a rest. map_read (λ rs. a ∷ rs) (many one m rest))
 
 -- A choice among each of the given numbers, one after the other.
-unfoldable pub chooseEach : List ℕ → List ℕ → Read (List ℕ)
-chooseEach [] ws = got [] ws
-chooseEach (k ∷ ks) ws = bindRead (choose k ws) (λ s rest. mapRead (λ ss. s ∷ ss) (chooseEach ks rest))
+unfoldable pub choose_each : List ℕ → List ℕ → Read (List ℕ)
+choose_each [] ws = got [] ws
+choose_each (k ∷ ks) ws = bind_read (choose k ws) (λ s rest. map_read (λ ss. s ∷ ss) (choose_each ks rest))

@@ -2,7 +2,7 @@
 // (30 to 32; 0 with every other), and how many words its choices passed over and how many bytes uniform ternary rejected. Every answer is made by one of
 // the functions below.
 ghost use Rattle.std.specs.Prelude.{◌≡◌};
-ghost use Rattle.distr.specs.Answers.{refusal, refusalAt, success, successAfter};
+ghost use Rattle.distr.specs.Answers.{refusal, refusal_at, success, success_after};
 
 #[derive(Drop)]
 pub struct Answer {
@@ -15,7 +15,7 @@ pub struct Answer {
 
 // A refused draw: its number, the place as it was, and the index that goes with the number. It reports nothing skipped.
 pub fn refused_at(number: u32, place: usize, index: usize) -> Answer
-    ensures { result ≡ refusalAt number place index }
+    ensures { result ≡ refusal_at number place index }
 {
     Answer {
         number,
@@ -35,7 +35,7 @@ pub fn refused(number: u32, place: usize) -> Answer
 
 // A draw that succeeded after skipping so many words and bytes: number 0 and the new place.
 pub fn succeeded_after(place: usize, skipped_words: u64, skipped_bytes: u64) -> Answer
-    ensures { result ≡ successAfter place (record { words = skipped_words; bytes = skipped_bytes }) }
+    ensures { result ≡ success_after place (record { words = skipped_words; bytes = skipped_bytes }) }
 {
     Answer {
         number: 0,

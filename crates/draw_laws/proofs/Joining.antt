@@ -29,11 +29,11 @@ first-within [] ns h = absurd (not-suc-le-zero h)
 first-within (zero ∷ ks) ns h = first-within ks ns h
 first-within (suc k ∷ ks) ns h = refl
 
-pub first-after : (ks ns : List ℕ) → first_of ks ≡ 0 → first_of (ks ++ ns) ≡ first_of ns
+pub first_after : (ks ns : List ℕ) → first_of ks ≡ 0 → first_of (ks ++ ns) ≡ first_of ns
 unfolding first_of
-first-after [] ns e = refl
-first-after (zero ∷ ks) ns e = first-after ks ns e
-first-after (suc k ∷ ks) ns e = absurd (omega arith)
+first_after [] ns e = refl
+first_after (zero ∷ ks) ns e = first_after ks ns e
+first_after (suc k ∷ ks) ns e = absurd (omega arith)
 
 -- a first number above 0 is the answer
 pub refused : {A : Type 0} (ns : List ℕ) {k : ℕ} (place : ℕ) (out : List A) (given : Outcome A) → first_of ns ≡ k → 0 < k

@@ -8,9 +8,9 @@ use lib.Dec.{T, eqb, eqb→eq}
 use borrow.Author.Tests.{eqb-true, eq-eqb, ne_eqb, not-true, not-false}
 use Rattle.distr.specs.Distribution.{Distr}
 use Rattle.distr.specs.Draw.{Outcome, judged}
-use Rattle.distr.specs.Making.{makingNumber, refuse, largest}
-use Rattle.distr.specs.Numbers.{first_of, modulusNumber}
-use Rattle.distr.specs.Constants.{neverMade}
+use Rattle.distr.specs.Making.{making_number, refuse, largest}
+use Rattle.distr.specs.Numbers.{first_of, modulus_number}
+use Rattle.distr.specs.Constants.{never_made}
 use Rattle.distr.proofs.Reading.{T_true, and_left, and_right}
 use Rattle.draw_laws.proofs.Joining.{first_alone}
 
@@ -26,23 +26,23 @@ pub record Makes (D M S R : Type 0) : Type 0 where
   pub same : M → M → Bool
   -- a sampler, with its parts, and the empty one
   pub holding : D → M → S
-  pub distrOf : S → D
-  pub methodOf : S → M
+  pub distr_of : S → D
+  pub method_of : S → M
   pub empty : S
   -- what making hands back, with its parts
   pub made : ℕ → S → R
   pub number : R → ℕ
   pub sampler : R → S
-  pub judges : (d : D) → makingNumber (kind d) ≡ judge d
+  pub judges : (d : D) → making_number (kind d) ≡ judge d
   pub prepared-magnitude : (d : D) → magnitude (prepared d) ≡ largest (kind d)
   -- a method with the key of a prepared one is that one, which has its own key
   pub same-prepared : (m : M) (d : D) → judge d ≡ 0 → T (fits m) → T (fits (prepared d)) → T (same m (prepared d)) → m ≡ prepared d
   pub prepared-same : (d : D) → judge d ≡ 0 → same (prepared d) (prepared d) ≡ true
-  pub distr-of : (d : D) (m : M) → distrOf (holding d m) ≡ d
-  pub method-of : (d : D) (m : M) → methodOf (holding d m) ≡ m
-  pub whole : (s : S) → holding (distrOf s) (methodOf s) ≡ s
+  pub distr_of_lem : (d : D) (m : M) → distr_of (holding d m) ≡ d
+  pub method_of_lem : (d : D) (m : M) → method_of (holding d m) ≡ m
+  pub whole : (s : S) → holding (distr_of s) (method_of s) ≡ s
   pub number_of : (n : ℕ) (s : S) → number (made n s) ≡ n
-  pub sampler-of : (n : ℕ) (s : S) → sampler (made n s) ≡ s
+  pub sampler_of_lem : (n : ℕ) (s : S) → sampler (made n s) ≡ s
 
 -- what counts where a number is 0, judged by a number that is the same: two values count as one if they are the same for the number 0
 pub judged-same : {M P : Type 0} (hold : ℕ → M → P) (none : M) (n k : ℕ) (m other : M) → n ≡ k → (k ≡ 0 → m ≡ other)
@@ -54,59 +54,59 @@ judged-same hold none n k m other e h = rw e (go (eqb k 0) refl)
     go false t = rw t
 
 -- a test that comes first hides what stands for the value where it does not count
-tested-first : {A : Type 0} (b : Bool) (test : A → Bool) (x none : A) → (b && test (cond b x none)) ≡ (b && test x)
-tested-first true test x none = refl
-tested-first false test x none = refl
+tested_first : {A : Type 0} (b : Bool) (test : A → Bool) (x none : A) → (b && test (cond b x none)) ≡ (b && test x)
+tested_first true test x none = refl
+tested_first false test x none = refl
 
 module _ {D M S R : Type 0} (k : Makes D M S R) where
   -- The test of a sampler: its distribution is accepted, and its method has the key of the one prepared for it.
   abbrev pub good : S → Bool
-  good s = eqb (k.judge (k.distrOf s)) 0 && k.same (k.methodOf s) (k.prepared (k.distrOf s))
+  good s = eqb (k.judge (k.distr_of s)) 0 && k.same (k.method_of s) (k.prepared (k.distr_of s))
 
   -- The floats of a sampler are values of f64, as they are in every sampler that code can hold.
   abbrev pub fitting : S → Bool
-  fitting s = k.fits (k.methodOf s) && k.fits (k.prepared (k.distrOf s))
+  fitting s = k.fits (k.method_of s) && k.fits (k.prepared (k.distr_of s))
 
-  abbrev pub preparedSampler : D → S
-  preparedSampler d = k.holding d (k.prepared d)
+  abbrev pub prepared_sampler : D → S
+  prepared_sampler d = k.holding d (k.prepared d)
 
   -- the number of making, with the sampler prepared for the distribution or the empty one
   abbrev pub making : D → R
-  making d = cond (eqb (k.judge d) 0) (k.made 0 (preparedSampler d)) (k.made (k.judge d) k.empty)
+  making d = cond (eqb (k.judge d) 0) (k.made 0 (prepared_sampler d)) (k.made (k.judge d) k.empty)
 
   -- A sampler that passes the test: its distribution is accepted, its method is the one prepared for it, and the magnitude that it keeps is
   -- its distribution's largest.
   module _ (s : S) where
-    pub good-accepted : T (good s) → k.judge (k.distrOf s) ≡ 0
-    good-accepted h = eqb→eq (k.judge (k.distrOf s)) 0 (and_left (eqb (k.judge (k.distrOf s)) 0) _ h)
+    pub good_accepted : T (good s) → k.judge (k.distr_of s) ≡ 0
+    good_accepted h = eqb→eq (k.judge (k.distr_of s)) 0 (and_left (eqb (k.judge (k.distr_of s)) 0) _ h)
 
-    pub good-number : T (good s) → makingNumber (k.kind (k.distrOf s)) ≡ 0
-    good-number h = k.judges (k.distrOf s) ∙ good-accepted h
+    pub good-number : T (good s) → making_number (k.kind (k.distr_of s)) ≡ 0
+    good-number h = k.judges (k.distr_of s) ∙ good_accepted h
 
-    pub good-method : T (fitting s) → T (good s) → k.methodOf s ≡ k.prepared (k.distrOf s)
+    pub good-method : T (fitting s) → T (good s) → k.method_of s ≡ k.prepared (k.distr_of s)
     good-method f h =
-        let mine = k.fits (k.methodOf s) in
-        let wanted = k.fits (k.prepared (k.distrOf s)) in
-        k.same-prepared (k.methodOf s) (k.distrOf s) (good-accepted h) (and_left mine wanted f) (and_right mine wanted f)
-        (and_right (eqb (k.judge (k.distrOf s)) 0) _ h)
+        let mine = k.fits (k.method_of s) in
+        let wanted = k.fits (k.prepared (k.distr_of s)) in
+        k.same-prepared (k.method_of s) (k.distr_of s) (good_accepted h) (and_left mine wanted f) (and_right mine wanted f)
+        (and_right (eqb (k.judge (k.distr_of s)) 0) _ h)
 
-    pub good-magnitude : T (fitting s) → T (good s) → k.magnitude (k.methodOf s) ≡ largest (k.kind (k.distrOf s))
-    good-magnitude f h = ap k.magnitude (good-method f h) ∙ k.prepared-magnitude (k.distrOf s)
+    pub good-magnitude : T (fitting s) → T (good s) → k.magnitude (k.method_of s) ≡ largest (k.kind (k.distr_of s))
+    good-magnitude f h = ap k.magnitude (good-method f h) ∙ k.prepared-magnitude (k.distr_of s)
 
     -- "A sampler that making never gives": one that passes is made from some distribution, and one that is made passes (given-good).
     pub good-given : T (fitting s) → T (good s) → (d : D) × (making d ≡ k.made 0 s)
     good-given f h =
-        (k.distrOf s, rw (good-accepted h) (ap (k.made 0) (ap (k.holding (k.distrOf s)) (sym (good-method f h)) ∙ k.whole s)))
+        (k.distr_of s, rw (good_accepted h) (ap (k.made 0) (ap (k.holding (k.distr_of s)) (sym (good-method f h)) ∙ k.whole s)))
 
     -- A draw by the sampler: 21 where making never gives it, else the draw by its method, which is the one prepared for its distribution.
-    pub tested-draw : T (fitting s) → {A : Type 0} (place : ℕ) (out : List A) (draw : M → Outcome A) (answer : Bool → Outcome A)
-        → record { number = neverMade; place = place; index = 0; output = out } ≡ answer false
-        → (makingNumber (k.kind (k.distrOf s)) ≡ 0 → draw (k.prepared (k.distrOf s)) ≡ answer true)
-        → judged (refuse (not (good s)) neverMade) place out (draw (k.methodOf s)) ≡ answer (good s)
+    pub tested_draw : T (fitting s) → {A : Type 0} (place : ℕ) (out : List A) (draw : M → Outcome A) (answer : Bool → Outcome A)
+        → record { number = never_made; place = place; index = 0; output = out } ≡ answer false
+        → (making_number (k.kind (k.distr_of s)) ≡ 0 → draw (k.prepared (k.distr_of s)) ≡ answer true)
+        → judged (refuse (not (good s)) never_made) place out (draw (k.method_of s)) ≡ answer (good s)
     unfolding judged
-    tested-draw f place out draw answer unmade made = go (good s) refl
+    tested_draw f place out draw answer unmade made = go (good s) refl
       where
-        go : (b : Bool) → good s ≡ b → judged (refuse (not b) neverMade) place out (draw (k.methodOf s)) ≡ answer b
+        go : (b : Bool) → good s ≡ b → judged (refuse (not b) never_made) place out (draw (k.method_of s)) ≡ answer b
         go true e = ap draw (good-method f (rw e tt)) ∙ made (good-number (rw e tt))
         go false e = unmade
 
@@ -115,43 +115,43 @@ module _ {D M S R : Type 0} (k : Makes D M S R) where
       pub is-good : not told ≡ false → T (good s)
       is-good h = rw (sym e ∙ not-false told h) tt
 
-      pub unmade-answer : {A : Type 0} (answer : Bool → A) → not told ≡ true → answer false ≡ answer (good s)
-      unmade-answer answer h = rw (sym e ∙ not-true told h)
+      pub unmade_answer : {A : Type 0} (answer : Bool → A) → not told ≡ true → answer false ≡ answer (good s)
+      unmade_answer answer h = rw (sym e ∙ not-true told h)
 
       pub made-answer : {A : Type 0} (answer : Bool → A) → not told ≡ false → answer true ≡ answer (good s)
       made-answer answer h = rw (sym e ∙ not-false told h)
 
-      pub unmade-first : (j : ℕ) → not told ≡ true → neverMade ≡ first_of (refuse (not (good s)) neverMade ∷ j ∷ [])
+      pub unmade_first : (j : ℕ) → not told ≡ true → never_made ≡ first_of (refuse (not (good s)) never_made ∷ j ∷ [])
       unfolding first_of
-      unmade-first j h = unmade-answer (λ b. first_of (refuse (not b) neverMade ∷ j ∷ [])) h
+      unmade_first j h = unmade_answer (λ b. first_of (refuse (not b) never_made ∷ j ∷ [])) h
 
-      pub made-next : (j : ℕ) → not told ≡ false → j ≡ first_of (refuse (not (good s)) neverMade ∷ j ∷ [])
+      pub made-next : (j : ℕ) → not told ≡ false → j ≡ first_of (refuse (not (good s)) never_made ∷ j ∷ [])
       unfolding first_of
-      made-next j h = sym (first_alone j) ∙ made-answer (λ b. first_of (refuse (not b) neverMade ∷ j ∷ [])) h
+      made-next j h = sym (first_alone j) ∙ made-answer (λ b. first_of (refuse (not b) never_made ∷ j ∷ [])) h
 
-      pub modulus-validated : (q : ℕ) → T (fitting s)
-          → first_of (refuse (not told) neverMade ∷ modulusNumber (k.magnitude (k.methodOf s)) q ∷ [])
-          ≡ first_of (refuse (not (good s)) neverMade ∷ modulusNumber (largest (k.kind (k.distrOf s))) q ∷ [])
+      pub modulus_validated : (q : ℕ) → T (fitting s)
+          → first_of (refuse (not told) never_made ∷ modulus_number (k.magnitude (k.method_of s)) q ∷ [])
+          ≡ first_of (refuse (not (good s)) never_made ∷ modulus_number (largest (k.kind (k.distr_of s))) q ∷ [])
       unfolding first_of
-      modulus-validated q f = rw e (go (good s) refl)
+      modulus_validated q f = rw e (go (good s) refl)
         where
           go : (b : Bool) → good s ≡ b
-              → first_of (refuse (not b) neverMade ∷ modulusNumber (k.magnitude (k.methodOf s)) q ∷ [])
-              ≡ first_of (refuse (not b) neverMade ∷ modulusNumber (largest (k.kind (k.distrOf s))) q ∷ [])
+              → first_of (refuse (not b) never_made ∷ modulus_number (k.magnitude (k.method_of s)) q ∷ [])
+              ≡ first_of (refuse (not b) never_made ∷ modulus_number (largest (k.kind (k.distr_of s))) q ∷ [])
           go true g = rw (good-magnitude f (rw g tt))
           go false g = refl
 
-  pub prepared-good : (d : D) → k.judge d ≡ 0 → T (good (preparedSampler d))
-  prepared-good d z = rw (k.distr-of d (k.prepared d), k.method-of d (k.prepared d), z, k.prepared-same d z) tt
+  pub prepared-good : (d : D) → k.judge d ≡ 0 → T (good (prepared_sampler d))
+  prepared-good d z = rw (k.distr_of_lem d (k.prepared d), k.method_of_lem d (k.prepared d), z, k.prepared-same d z) tt
 
   -- What a distribution prepares, a number and a method that counts where the number is 0: comparing a method with it, and making of it.
-  pub good-test : (none : M) (s : S)
-      → (eqb (k.judge (k.distrOf s)) 0 && k.same (k.methodOf s) (cond (eqb (k.judge (k.distrOf s)) 0) (k.prepared (k.distrOf s)) none)) ≡ good s
-  good-test none s = tested-first (eqb (k.judge (k.distrOf s)) 0) (k.same (k.methodOf s)) (k.prepared (k.distrOf s)) none
+  pub good_test : (none : M) (s : S)
+      → (eqb (k.judge (k.distr_of s)) 0 && k.same (k.method_of s) (cond (eqb (k.judge (k.distr_of s)) 0) (k.prepared (k.distr_of s)) none)) ≡ good s
+  good_test none s = tested_first (eqb (k.judge (k.distr_of s)) 0) (k.same (k.method_of s)) (k.prepared (k.distr_of s)) none
 
   module _ (d : D) (n : ℕ) (e : n ≡ k.judge d) where
-    pub makes-sampler : (none m : M) → m ≡ cond (eqb (k.judge d) 0) (k.prepared d) none → n ≡ 0 → k.made 0 (k.holding d m) ≡ making d
-    makes-sampler none m h z = let zero : k.judge d ≡ 0 = sym e ∙ z in rw (h, zero)
+    pub makes_sampler : (none m : M) → m ≡ cond (eqb (k.judge d) 0) (k.prepared d) none → n ≡ 0 → k.made 0 (k.holding d m) ≡ making d
+    makes_sampler none m h z = let zero : k.judge d ≡ 0 = sym e ∙ z in rw (h, zero)
 
     pub makes_none : (n ≡ 0 → ⊥) → k.made n k.empty ≡ making d
     makes_none z = rw e (let some : eqb (k.judge d) 0 ≡ false = ne_eqb _ _ (rw e at z) in rw some)
@@ -162,21 +162,21 @@ module _ {D M S R : Type 0} (k : Makes D M S R) where
       number-made = go (eqb (k.judge d) 0) refl
         where
           go : (b : Bool) → eqb (k.judge d) 0 ≡ b → k.number m ≡ k.judge d
-          go true e = ap k.number (rw e at h) ∙ k.number_of 0 (preparedSampler d) ∙ sym (eqb-true (k.judge d) 0 e)
+          go true e = ap k.number (rw e at h) ∙ k.number_of 0 (prepared_sampler d) ∙ sym (eqb-true (k.judge d) 0 e)
           go false e = ap k.number (rw e at h) ∙ k.number_of (k.judge d) k.empty
 
-      sampler-made : k.number m ≡ 0 → k.sampler m ≡ preparedSampler d
-      sampler-made z = ap k.sampler (rw (eq-eqb (k.judge d) 0 (sym number-made ∙ z)) at h) ∙ k.sampler-of 0 (preparedSampler d)
+      sampler_made : k.number m ≡ 0 → k.sampler m ≡ prepared_sampler d
+      sampler_made z = ap k.sampler (rw (eq-eqb (k.judge d) 0 (sym number-made ∙ z)) at h) ∙ k.sampler_of_lem 0 (prepared_sampler d)
 
       good-made : k.number m ≡ 0 → T (good (k.sampler m))
-      good-made z = rw (sampler-made z) (prepared-good d (sym number-made ∙ z))
+      good-made z = rw (sampler_made z) (prepared-good d (sym number-made ∙ z))
 
-      pub call-number : k.number m ≡ makingNumber (k.kind d)
-      call-number = number-made ∙ sym (k.judges d)
+      pub call_number : k.number m ≡ making_number (k.kind d)
+      call_number = number-made ∙ sym (k.judges d)
 
       -- what the sampler that is made draws by: its method passes, and is the one prepared
-      pub call-made : k.number m ≡ 0 → (good (k.sampler m) ≡ true) × (k.methodOf (k.sampler m) ≡ k.prepared d)
-      call-made z = (T_true (good (k.sampler m)) (good-made z), ap k.methodOf (sampler-made z) ∙ k.method-of d (k.prepared d))
+      pub call_made : k.number m ≡ 0 → (good (k.sampler m) ≡ true) × (k.method_of (k.sampler m) ≡ k.prepared d)
+      call_made z = (T_true (good (k.sampler m)) (good-made z), ap k.method_of (sampler_made z) ∙ k.method_of_lem d (k.prepared d))
 
     pub given-good : (s : S) → making d ≡ k.made 0 s → T (good s)
-    given-good s h = subst (λ (t : S). T (good t)) (k.sampler-of 0 s) (good-made (k.made 0 s) (sym h) (k.number_of 0 s))
+    given-good s h = subst (λ (t : S). T (good t)) (k.sampler_of_lem 0 s) (good-made (k.made 0 s) (sym h) (k.number_of 0 s))

@@ -9,25 +9,25 @@ use lib.Dec.{ltb, eqb}
 use lib.ListN.{length, drop}
 use lib.IntN.{ℤ}
 use Rattle.distr.specs.Words.{Read, got, short}
-use Rattle.distr.specs.Constants.{outputLimit}
+use Rattle.distr.specs.Constants.{output_limit}
 use Rattle.distr.specs.Making.{refuse}
-use Rattle.distr.specs.Numbers.{first_of, pastEnd, tooLong}
-use Rattle.distr.specs.Draw.{Outcome, settled, judged, naming, readDraw}
+use Rattle.distr.specs.Numbers.{first_of, past_end, too_long}
+use Rattle.distr.specs.Draw.{Outcome, settled, judged, naming, read_draw}
 use Rattle.draw_laws.proofs.Joining.{first_alone}
 use Rattle.draw_laws.proofs.Small.{first_below, refuse-below}
 
 -- a draw's number is small where its own is
-pub draw-small : (count place n own : ℕ) → own < 30 → first_of (pastEnd count place ∷ tooLong n ∷ own ∷ []) < 30
+pub draw-small : (count place n own : ℕ) → own < 30 → first_of (past_end count place ∷ too_long n ∷ own ∷ []) < 30
 unfolding first_of
 draw-small count place n own small =
-    first_below (pastEnd count place) (tooLong n ∷ own ∷ []) (refuse-below (ltb count place) 22 (omega arith))
-    (first_below (tooLong n) (own ∷ []) (refuse-below (ltb outputLimit n) 6 (omega arith)) (first_below own [] small (omega arith)))
+    first_below (past_end count place) (too_long n ∷ own ∷ []) (refuse-below (ltb count place) 22 (omega arith))
+    (first_below (too_long n) (own ∷ []) (refuse-below (ltb output_limit n) 6 (omega arith)) (first_below own [] small (omega arith)))
 
 -- and one that is not its own is 22 or 6
-draw-other : (count place n own : ℕ) → (first_of (pastEnd count place ∷ tooLong n ∷ own ∷ []) ≡ own → ⊥)
-    → first_of (pastEnd count place ∷ tooLong n ∷ own ∷ []) < 30
+draw-other : (count place n own : ℕ) → (first_of (past_end count place ∷ too_long n ∷ own ∷ []) ≡ own → ⊥)
+    → first_of (past_end count place ∷ too_long n ∷ own ∷ []) < 30
 unfolding first_of
-draw-other count place n own = go (ltb count place) (ltb outputLimit n)
+draw-other count place n own = go (ltb count place) (ltb output_limit n)
   where
     go : (past long : Bool) → (first_of (refuse past 22 ∷ refuse long 6 ∷ own ∷ []) ≡ own → ⊥) → first_of (refuse past 22 ∷ refuse long 6 ∷ own ∷ []) < 30
     go true long other = omega arith
@@ -36,7 +36,7 @@ draw-other count place n own = go (ltb count place) (ltb outputLimit n)
 
 -- so the index is that of the draw's own number where this refuses it, else 0
 pub draw-index : (index : ℕ → ℕ) → ((k : ℕ) → k < 30 → index k ≡ 0) → (count place n own : ℕ) {k : ℕ}
-    → k ≡ first_of (pastEnd count place ∷ tooLong n ∷ own ∷ []) → cond (eqb k own) (index own) 0 ≡ index k
+    → k ≡ first_of (past_end count place ∷ too_long n ∷ own ∷ []) → cond (eqb k own) (index own) 0 ≡ index k
 draw-index index none count place n own {k} e = go (eqb k own) refl
   where
     go : (b : Bool) → eqb k own ≡ b → cond b (index own) 0 ≡ index k
@@ -68,8 +68,8 @@ module _ {A : Type 0} (index : ℕ → ℕ) where
 
     -- a whole draw whose own number is small
     pub read_named : (write : List ℤ → List A) (own : ℕ) (rules : List ℕ → Read (List ℤ)) (words : List ℕ) (place : ℕ) (out : List A) → own < 30
-        → readDraw write own rules words place out ≡ naming index (readDraw write own rules words place out)
+        → read_draw write own rules words place out ≡ naming index (read_draw write own rules words place out)
     read_named write own rules words place out small =
-        let k = first_of (pastEnd (length words) place ∷ tooLong (length out) ∷ own ∷ []) in
+        let k = first_of (past_end (length words) place ∷ too_long (length out) ∷ own ∷ []) in
         ap (judged k place out) (settled-named write (length words) place (length out) (rules (drop place words)))
         ∙ judged-naming k place out _ (λ some. none k (draw-small (length words) place (length out) own small))

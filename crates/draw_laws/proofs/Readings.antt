@@ -4,7 +4,7 @@ use mathlib.Core.List.{List, ◌∷◌}
 use Prim.Native.Nat.{ℕ, zero, suc, ◌<◌}
 use native.Mathlib.Omega.{arith}
 use lib.IntN.{ℤ}
-use Rattle.distr.specs.Words.{Read, got, short, mapRead, bindRead, choose, many}
+use Rattle.distr.specs.Words.{Read, got, short, map_read, bind_read, choose, many}
 use Rattle.distr.specs.Rule.{Rule, read_by}
 use Rattle.distr.proofs.Reading.{chose}
 use Rattle.draw_laws.proofs.Every.{Every, none, more}
@@ -29,34 +29,34 @@ reads_all short = nothing
 
 module _ {A B : Type 0} {Q : B → Type 0} where
   -- a value changed by f
-  pub reads-map : {P : A → Type 0} (f : A → B) → ((a : A) → P a → Q (f a)) → {read : Read A} → Reads P read → Reads Q (mapRead f read)
-  unfolding mapRead
+  pub reads-map : {P : A → Type 0} (f : A → B) → ((a : A) → P a → Q (f a)) → {read : Read A} → Reads P read → Reads Q (map_read f read)
+  unfolding map_read
   reads-map f h (value p) = value (h _ p)
   reads-map f h nothing = nothing
 
   -- whatever f gives
-  pub reads-any : (f : A → B) → ((a : A) → Q (f a)) → (read : Read A) → Reads Q (mapRead f read)
-  unfolding mapRead
-  reads-any f h (got a rest) = value (h a)
-  reads-any f h short = nothing
+  pub reads_any : (f : A → B) → ((a : A) → Q (f a)) → (read : Read A) → Reads Q (map_read f read)
+  unfolding map_read
+  reads_any f h (got a rest) = value (h a)
+  reads_any f h short = nothing
 
   -- a reading that goes on with the value of another
-  pub reads-bind : {P : A → Type 0} {read : Read A} (next : A → List ℕ → Read B) → Reads P read
-      → ((a : A) (rest : List ℕ) → P a → Reads Q (next a rest)) → Reads Q (bindRead read next)
-  unfolding bindRead
-  reads-bind next (value {a} {rest} p) h = h a rest p
-  reads-bind next nothing h = nothing
+  pub reads_bind : {P : A → Type 0} {read : Read A} (next : A → List ℕ → Read B) → Reads P read
+      → ((a : A) (rest : List ℕ) → P a → Reads Q (next a rest)) → Reads Q (bind_read read next)
+  unfolding bind_read
+  reads_bind next (value {a} {rest} p) h = h a rest p
+  reads_bind next nothing h = nothing
 
 -- the coefficients of a rule
 pub reads-rule : {P : ℤ → Type 0} (by : Rule) → ((ds : List ℕ) → Every P (by.decode ds)) → (ws : List ℕ) → Reads (Every P) (read_by by ws)
-reads-rule by h ws = reads-any by.decode h (by.draws ws)
+reads-rule by h ws = reads_any by.decode h (by.draws ws)
 
 -- as many readings of one kind
 pub reads-many : {P : ℤ → Type 0} (one : List ℕ → Read ℤ) → ((ws : List ℕ) → Reads P (one ws)) → (m : ℕ) (ws : List ℕ) → Reads (Every P) (many one m ws)
 unfolding many
 reads-many one h zero ws = value none
 reads-many one h (suc m) ws =
-    reads-bind (λ c rest. mapRead (λ cs. c ∷ cs) (many one m rest)) (h ws)
+    reads_bind (λ c rest. map_read (λ cs. c ∷ cs) (many one m rest)) (h ws)
     (λ c rest p. reads-map (λ (cs : List ℤ). c ∷ cs) (λ cs e. more p e) (reads-many one h m rest))
 
 -- a choice among k

@@ -8,6 +8,6 @@ abbrev pub NoneTo : ℕ → ℕ → Type 0
 NoneTo zero kind = Unit
 NoneTo (suc m) kind = NoneTo m kind × (kind ≡ suc m → ⊥)
 
-pub past-kinds : (m kind : ℕ) → NoneTo m kind × (kind ≡ 0 → ⊥) → m < kind
-past-kinds zero kind none = omega (arith, none.1)
-past-kinds (suc m) kind none = omega (arith, past-kinds m kind (none.0.0, none.1), none.0.1)
+pub past_kinds : (m kind : ℕ) → NoneTo m kind × (kind ≡ 0 → ⊥) → m < kind
+past_kinds zero kind none = omega (arith, none.1)
+past_kinds (suc m) kind none = omega (arith, past_kinds m kind (none.0.0, none.1), none.0.1)

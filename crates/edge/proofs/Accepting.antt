@@ -6,12 +6,12 @@ use lib.Dec.{eqb}
 use lib.Ieee.{Float, binary64, mul, sub, add, div, le, eq}
 use Rattle.distr.specs.Constants.{literal}
 use Rattle.distr.specs.Layered.{Layers, x, y, pdf, float, difference, slope, line, under, accepts, Left, Right, Middle}
-use Rattle.edge.specs.Edge.{layerAt, slopeOf, line_of, acceptsOn}
+use Rattle.edge.specs.Edge.{layer_at, slope_of, line_of, accepts_on}
 
 module _ (t : Layers) (i : ℕ) where
   -- the chord falls from its start to the layer's height
-  same-slope : slopeOf (layerAt t i) ≡ slope t i
-  unfolding slopeOf
+  same-slope : slope_of (layer_at t i) ≡ slope t i
+  unfolding slope_of
   same-slope =
       let width = sub binary64 (x t i) (x t (i - 1)) in
       ap (λ (fall : Float). cond (eq width (literal 0 1)) (literal 0 1) (div binary64 fall width))
@@ -22,12 +22,12 @@ module _ (t : Layers) (i : ℕ) where
       by-layer true = refl
       by-layer false = refl
 
-  same_line : (at : Float) → line_of (layerAt t i) at ≡ line t i at
+  same_line : (at : Float) → line_of (layer_at t i) at ≡ line t i at
   unfolding line_of
   same_line at = rw same-slope
 
-  pub same-accepts : (deviation : Float) (m u : ℕ) → acceptsOn deviation (layerAt t i) (float m) (pdf t m) (float u) ≡ accepts deviation t i m u
-  unfolding acceptsOn
+  pub same-accepts : (deviation : Float) (m u : ℕ) → accepts_on deviation (layer_at t i) (float m) (pdf t m) (float u) ≡ accepts deviation t i m u
+  unfolding accepts_on
   same-accepts deviation m u =
       rw (same_line (float m), same_line (sub binary64 (float m) (literal 1 1)))
       (by-region (le (add binary64 (x t i) (literal 1 1)) deviation) (le deviation (x t (i - 1))) (mul binary64 (difference t i) (float u)))

@@ -1,7 +1,7 @@
 // Inner crate of primus_distr: the acceptance test on a layer's edge, each f64 operation in the order of `sample` and of the preparation in `new`.
 ghost use Rattle.std.specs.Prelude.{◌≡◌};
 ghost use Rattle.distr.specs.Layered.{float};
-ghost use Rattle.edge.specs.Edge.{slopeOf, line_of, acceptsOn};
+ghost use Rattle.edge.specs.Edge.{slope_of, line_of, accepts_on};
 
 // A layer: its edge reaches from left to right, its heights are above and below, and its chord starts at top.
 #[derive(Drop)]
@@ -15,7 +15,7 @@ pub struct Layer {
 
 // The slope of a layer's chord; a collapsed interval has 0.0.
 fn slope(layer: Layer) -> f64
-    ensures { result ≡ slopeOf layer }
+    ensures { result ≡ slope_of layer }
 {
     let width = layer.right - layer.left;
     if width == 0.0 {
@@ -39,7 +39,7 @@ fn line(layer: Layer, at: f64) -> f64
 // Whether a magnitude on the edge is accepted: the word is a height in the layer, and pdf the curve's value there. Where the layer lies
 // wholly on one side of the deviation the chord decides most words.
 pub fn accepts(deviation: f64, layer: Layer, magnitude: u32, pdf: f64, word: u32) -> bool
-    ensures { result ≡ acceptsOn deviation layer (float magnitude) pdf (float word) }
+    ensures { result ≡ accepts_on deviation layer (float magnitude) pdf (float word) }
 {
     let at = magnitude as f64;
     let height = (layer.above - layer.below) * (word as f64);

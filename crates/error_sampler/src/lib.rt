@@ -5,9 +5,9 @@ mod draws;
 ghost use Rattle.std.specs.Prelude.{◌≡◌, not, [], ◌∷◌};
 ghost use Rattle.distr.specs.Distribution.{error};
 ghost use Rattle.distr.specs.Making.{refuse, largest};
-ghost use Rattle.distr.specs.Numbers.{first_of, modulusNumber};
-ghost use Rattle.methods.specs.Method.{testedMethod, magnitudeOf};
-ghost use Rattle.error_sampler.specs.Sampler.{making, isMade, deviationOf};
+ghost use Rattle.distr.specs.Numbers.{first_of, modulus_number};
+ghost use Rattle.methods.specs.Method.{tested_method, magnitude_of};
+ghost use Rattle.error_sampler.specs.Sampler.{making, is_made, deviation_of};
 
 use centered_binomial::deviation::standard_deviation as binomial_deviation;
 use distr::error_distribution::ErrorDistribution;
@@ -66,7 +66,7 @@ impl ErrorSampler {
     // An inclusive bound on every coefficient's magnitude: the Gaussian's support or eta. For a sampler that making never
     // gives, the support or eta that its method holds, and 1 for the empty one: nothing is drawn by it.
     pub fn maximum_magnitude(self) -> u64
-        ensures { result ≡ magnitudeOf self.method }
+        ensures { result ≡ magnitude_of self.method }
     {
         let method = self.method;
         methods::maximum_magnitude(method)
@@ -74,7 +74,7 @@ impl ErrorSampler {
 
     // The Gaussian's deviation, or the f64 nearest to the centered binomial's, the root of eta / 2. The empty sampler has eta 0, and 0.0.
     pub fn standard_deviation(self) -> f64
-        ensures { result ≡ deviationOf self.distribution }
+        ensures { result ≡ deviation_of self.distribution }
     {
         let distribution = self.distribution;
         match distribution {
@@ -85,7 +85,7 @@ impl ErrorSampler {
 
     // 0, or 21 for a sampler that making never gives, 9 for a modulus that is not above the largest magnitude.
     pub fn validate_modulus(self, modulus: u64) -> u32
-        ensures { result ≡ first_of (refuse (not (isMade self)) 21 ∷ modulusNumber (largest (error self.distribution)) modulus ∷ []) }
+        ensures { result ≡ first_of (refuse (not (is_made self)) 21 ∷ modulus_number (largest (error self.distribution)) modulus ∷ []) }
     {
         let made = is_made(self);
         let method = self.method;
@@ -94,7 +94,7 @@ impl ErrorSampler {
 
     // What the sampler draws by: its method, with 21 where making never gives the sampler.
     pub fn prepared(self) -> PreparedMethod
-        ensures { result ≡ testedMethod (isMade self) self.method }
+        ensures { result ≡ tested_method (is_made self) self.method }
     {
         let made = is_made(self);
         let method = self.method;
@@ -104,7 +104,7 @@ impl ErrorSampler {
 
 // Whether making gives this sampler: its distribution is prepared again, and the methods are compared.
 pub fn is_made(sampler: ErrorSampler) -> bool
-    ensures { result ≡ isMade sampler }
+    ensures { result ≡ is_made sampler }
 {
     let distribution = sampler.distribution;
     let method = sampler.method;

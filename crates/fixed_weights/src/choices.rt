@@ -1,6 +1,6 @@
 // Signs with chosen places: a sign is read before the choice that it goes with.
 ghost use Rattle.std.specs.Prelude.{◌≡◌, ◌<◌, length, drop};
-ghost use Rattle.fixed_weights.specs.Inserting.{lowestSignAndPlace, signAndPlace, signing};
+ghost use Rattle.fixed_weights.specs.Inserting.{lowest_sign_and_place, sign_and_place, signing};
 
 use words::Taken;
 
@@ -20,7 +20,7 @@ pub enum Signing {
 // Takes the lowest of the signs at hand and chooses a place among k.
 fn lowest_sign_and_place(words: &[u32], place: usize, word: u64, left: usize, k: u64) -> Signing
     requires { 0 < left }
-    ensures { result ≡ signing (length words.now) (lowestSignAndPlace k word left (drop place words.now)) }
+    ensures { result ≡ signing (length words.now) (lowest_sign_and_place k word left (drop place words.now)) }
 {
     let bit = (word % 2) as usize;
     let rest = word / 2;
@@ -46,7 +46,7 @@ fn lowest_sign_and_place(words: &[u32], place: usize, word: u64, left: usize, k:
 
 // The same, with a word of 32 signs read first where none are left.
 pub fn sign_and_place(words: &[u32], place: usize, word: u64, left: usize, k: u64) -> Signing
-    ensures { result ≡ signing (length words.now) (signAndPlace k word left (drop place words.now)) }
+    ensures { result ≡ signing (length words.now) (sign_and_place k word left (drop place words.now)) }
 {
     if left == 0 {
         match words::next_u32(words, place) {

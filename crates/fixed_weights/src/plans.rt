@@ -1,7 +1,7 @@
 // Plans of insertions. A plan says what fills and what is inserted, by the codes 0, 1, 2 of -1, 1 and 0, whatever the output's type; a
 // table holds what they are in the output.
 ghost use Rattle.std.specs.Prelude.{◌≡◌, cond, ◌+◌, ◌≤◌, ltb};
-ghost use Rattle.fixed_weights.specs.Plans.{compositionPlan, onlyFirst, binaryPlan, planning, weightNumber};
+ghost use Rattle.fixed_weights.specs.Plans.{composition_plan, only_first, binary_plan, planning, weight_number};
 
 // One value fills; copies of a first and then of a second are inserted.
 #[derive(Drop)]
@@ -22,7 +22,7 @@ pub enum Planning {
 
 // The number of a draw of n coefficients with so many of two values: 22 past the end of the words, 6 too long, 7 too many, 0 good.
 pub fn weight_number(word_count: usize, place: usize, n: usize, first: usize, second: usize) -> u32
-    ensures { result ≡ weightNumber word_count place n (first + second) }
+    ensures { result ≡ weight_number word_count place n (first + second) }
 {
     let own = numbers::weight_number(first, second, n);
     numbers::draw_number(word_count, place, n, own)
@@ -38,7 +38,7 @@ pub fn code_at(i: usize, split: usize, first: usize, second: usize) -> usize
 // The commonest value fills, at ties 0 before -1 before 1, and the other two are inserted in that order.
 fn commonest_fills(minus: usize, ones: usize, n: usize) -> Plan
     requires { minus + ones ≤ n }
-    ensures { result ≡ compositionPlan minus ones n }
+    ensures { result ≡ composition_plan minus ones n }
 {
     let zeros = n - minus - ones;
     if (minus <= zeros) & (ones <= zeros) {
@@ -76,7 +76,7 @@ pub fn composition_plan(
     minus: usize,
     ones: usize,
 ) -> Planning
-    ensures { result ≡ planning (weightNumber word_count place n (minus + ones)) (compositionPlan minus ones n) }
+    ensures { result ≡ planning (weight_number word_count place n (minus + ones)) (composition_plan minus ones n) }
 {
     let number = weight_number(word_count, place, n, minus, ones);
     if number != 0 {
@@ -88,7 +88,7 @@ pub fn composition_plan(
 
 // A plan that inserts one value alone; the second is 0, inserted no times.
 fn only_first(fill: usize, first: usize, firsts: usize) -> Plan
-    ensures { result ≡ onlyFirst fill first firsts }
+    ensures { result ≡ only_first fill first firsts }
 {
     Plan {
         fill,
@@ -102,7 +102,7 @@ fn only_first(fill: usize, first: usize, firsts: usize) -> Plan
 // Ones into zeros, or zeros into ones where there are fewer of those.
 fn rarer_inserted(hamming_weight: usize, n: usize) -> Plan
     requires { hamming_weight ≤ n }
-    ensures { result ≡ binaryPlan hamming_weight n }
+    ensures { result ≡ binary_plan hamming_weight n }
 {
     let zeros = n - hamming_weight;
     if hamming_weight <= zeros {
@@ -114,7 +114,7 @@ fn rarer_inserted(hamming_weight: usize, n: usize) -> Plan
 
 // The plan of n coefficients with so many ones, the rest zeros.
 pub fn binary_plan(word_count: usize, place: usize, n: usize, hamming_weight: usize) -> Planning
-    ensures { result ≡ planning (weightNumber word_count place n hamming_weight) (binaryPlan hamming_weight n) }
+    ensures { result ≡ planning (weight_number word_count place n hamming_weight) (binary_plan hamming_weight n) }
 {
     let number = weight_number(word_count, place, n, hamming_weight, 0);
     if number != 0 {

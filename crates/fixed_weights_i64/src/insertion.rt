@@ -1,13 +1,13 @@
 // Values inserted at chosen places, as the Rust's insert_random_values has it. A plan says what fills and what is inserted;
 // a table of three holds what -1, 1 and 0 are in the output.
 ghost use Rattle.std.specs.Prelude.{◌≡◌, [], ◌≤◌, ◌<◌, suc, ◌-◌, length, get_or, drop, set, replicate};
-ghost use Rattle.distr.specs.Constants.{outputLimit};
+ghost use Rattle.distr.specs.Constants.{output_limit};
 ghost use Rattle.distr.specs.Draw.{outcome};
 ghost use Rattle.distr.specs.Answers.{sums, reported};
-ghost use Rattle.distr.specs.Skipped.{skippedWords, passedEach};
-ghost use Rattle.distr.specs.Insertion.{countUp, passedSigned};
+ghost use Rattle.distr.specs.Skipped.{skipped_words, passed_each};
+ghost use Rattle.distr.specs.Insertion.{count_up, passed_signed};
 ghost use Rattle.output_i64.specs.Out.{zero};
-ghost use Rattle.fixed_weights.specs.Inserting.{placed, inserting, insertingSigns};
+ghost use Rattle.fixed_weights.specs.Inserting.{placed, inserting, inserting_signs};
 ghost use Rattle.fixed_weights.specs.Plans.{Ready, planned};
 
 use crate::{Out, clear, fill};
@@ -47,9 +47,9 @@ pub(crate) fn insert_random_values(
     words: &[u32],
     place: usize,
 ) -> Answer
-    requires { Ready plan (length output.old) × (length output.old ≤ outputLimit) × (place ≤ length words.now) }
+    requires { Ready plan (length output.old) × (length output.old ≤ output_limit) × (place ≤ length words.now) }
     ensures output_after { outcome result output.new ≡ placed zero (length words.now) place (length output.old) (inserting values.now zero plan (length output.old) (drop place words.now)) }
-    ensures result_value { sums result ≡ reported result.number (skippedWords (passedEach (countUp (suc (length output.old - planned plan)) (planned plan)) (drop place words.now))) }
+    ensures result_value { sums result ≡ reported result.number (skipped_words (passed_each (count_up (suc (length output.old - planned plan)) (planned plan)) (drop place words.now))) }
 {
     let n = output.len();
     let filling = plan.fill;
@@ -92,9 +92,9 @@ pub(crate) fn insert_random_signs(
     words: &[u32],
     place: usize,
 ) -> Answer
-    requires { (hamming_weight ≤ length output.old) × (length output.old ≤ outputLimit) × (place ≤ length words.now) }
-    ensures output_after { outcome result output.new ≡ placed zero (length words.now) place (length output.old) (insertingSigns values.now zero hamming_weight (length output.old) (drop place words.now)) }
-    ensures result_value { sums result ≡ reported result.number (skippedWords (passedSigned (countUp (suc (length output.old - hamming_weight)) hamming_weight) [] (drop place words.now))) }
+    requires { (hamming_weight ≤ length output.old) × (length output.old ≤ output_limit) × (place ≤ length words.now) }
+    ensures output_after { outcome result output.new ≡ placed zero (length words.now) place (length output.old) (inserting_signs values.now zero hamming_weight (length output.old) (drop place words.now)) }
+    ensures result_value { sums result ≡ reported result.number (skipped_words (passed_signed (count_up (suc (length output.old - hamming_weight)) hamming_weight) [] (drop place words.now))) }
 {
     let n = output.len();
     fill_with(output, values, 2);

@@ -1,8 +1,8 @@
 // Exactly so many -1 and so many 1 at chosen places; the encoding says how -1 is held.
 ghost use Rattle.std.specs.Prelude.{◌≡◌, ◌+◌, length, drop};
-ghost use Rattle.distr.specs.Numbers.{badWeight};
-ghost use Rattle.distr.specs.Insertion.{fixedComposition};
-ghost use Rattle.distr.specs.Draw.{outcome, ruleDraw};
+ghost use Rattle.distr.specs.Numbers.{bad_weight};
+ghost use Rattle.distr.specs.Insertion.{fixed_composition};
+ghost use Rattle.distr.specs.Draw.{outcome, rule_draw};
 ghost use Rattle.distr.specs.Answers.{sums, reported};
 ghost use Rattle.output_u64.specs.Out.{held};
 
@@ -20,8 +20,8 @@ pub fn sample_fixed_composition_ternary_values_to(
     words: &[u32],
     place: usize,
 ) -> Answer
-    ensures output_after { outcome result output.new ≡ ruleDraw (held encoding) (badWeight (minus_one_weight + one_weight) (length output.old)) (fixedComposition minus_one_weight one_weight (length output.old)) words.now place output.old }
-    ensures result_value { sums result ≡ reported result.number ((fixedComposition minus_one_weight one_weight (length output.old)).skips (drop place words.now)) }
+    ensures output_after { outcome result output.new ≡ rule_draw (held encoding) (bad_weight (minus_one_weight + one_weight) (length output.old)) (fixed_composition minus_one_weight one_weight (length output.old)) words.now place output.old }
+    ensures result_value { sums result ≡ reported result.number ((fixed_composition minus_one_weight one_weight (length output.old)).skips (drop place words.now)) }
 {
     let n = output.len();
     match plans::composition_plan(words.len(), place, n, minus_one_weight, one_weight) {

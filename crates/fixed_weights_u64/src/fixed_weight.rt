@@ -1,8 +1,8 @@
 // Exactly so many nonzero values at chosen places.
 ghost use Rattle.std.specs.Prelude.{◌≡◌, length, drop};
-ghost use Rattle.distr.specs.Numbers.{badWeight};
-ghost use Rattle.distr.specs.Insertion.{fixedBinaryWeight, fixedTernaryWeight};
-ghost use Rattle.distr.specs.Draw.{outcome, ruleDraw};
+ghost use Rattle.distr.specs.Numbers.{bad_weight};
+ghost use Rattle.distr.specs.Insertion.{fixed_binary_weight, fixed_ternary_weight};
+ghost use Rattle.distr.specs.Draw.{outcome, rule_draw};
 ghost use Rattle.distr.specs.Answers.{sums, reported};
 ghost use Rattle.output_u64.specs.Out.{held};
 
@@ -20,9 +20,9 @@ pub fn sample_fixed_hamming_weight_binary_values_to(
     place: usize,
 ) -> Answer
     ensures output_after { outcome result output.new ≡
-        ruleDraw (held encoding) (badWeight hamming_weight (length output.old))
-        (fixedBinaryWeight hamming_weight (length output.old)) words.now place output.old }
-    ensures result_value { sums result ≡ reported result.number ((fixedBinaryWeight hamming_weight (length output.old)).skips (drop place words.now)) }
+        rule_draw (held encoding) (bad_weight hamming_weight (length output.old))
+        (fixed_binary_weight hamming_weight (length output.old)) words.now place output.old }
+    ensures result_value { sums result ≡ reported result.number ((fixed_binary_weight hamming_weight (length output.old)).skips (drop place words.now)) }
 {
     match plans::binary_plan(words.len(), place, output.len(), hamming_weight) {
         Planning::By(plan) => {
@@ -43,9 +43,9 @@ pub fn sample_fixed_hamming_weight_ternary_values_to(
     words: &[u32],
     place: usize,
 ) -> Answer
-    ensures output_after { outcome result output.new ≡ ruleDraw (held encoding) (badWeight hamming_weight (length output.old))
-        (fixedTernaryWeight hamming_weight (length output.old)) words.now place output.old }
-    ensures result_value { sums result ≡ reported result.number ((fixedTernaryWeight hamming_weight (length output.old)).skips (drop place words.now)) }
+    ensures output_after { outcome result output.new ≡ rule_draw (held encoding) (bad_weight hamming_weight (length output.old))
+        (fixed_ternary_weight hamming_weight (length output.old)) words.now place output.old }
+    ensures result_value { sums result ≡ reported result.number ((fixed_ternary_weight hamming_weight (length output.old)).skips (drop place words.now)) }
 {
     let n = output.len();
     let number = plans::weight_number(words.len(), place, n, hamming_weight, 0);

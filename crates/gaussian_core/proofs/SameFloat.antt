@@ -46,13 +46,13 @@ beq_same true false h = absurd h
 beq_same false true h = absurd h
 beq_same false false h = refl
 
-pub beq-self : (b : Bool) → beq b b ≡ true
-beq-self true = refl
-beq-self false = refl
+pub beq_self : (b : Bool) → beq b b ≡ true
+beq_self true = refl
+beq_self false = refl
 
 -- A number equals itself.
 pub eq_self : (x : Float) → T (finite x) → eq x x ≡ true
 unfolding eq
 eq_self nan h = absurd h
 eq_self (inf s) h = absurd h
-eq_self (fin s m e) h = rw (beq-self s, eq-eqb (m * up e * down e) (m * up e * down e) refl)
+eq_self (fin s m e) h = rw (beq_self s, eq-eqb (m * up e * down e) (m * up e * down e) refl)

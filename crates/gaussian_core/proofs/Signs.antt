@@ -11,9 +11,9 @@ pub record Turned (v : ℤ) : Type 0 where
   pub small : nat_abs v ≤ 2 ^ 63
   pub bits : to_z w64 (18446744073709551615 - of_z w64 v) ≡ pos (nat_abs v - 1)
 
-turned-bits : (v : ℤ) → SFits w64 v → lt_z v (pos 0) ≡ true → Turned v
-turned-bits (pos n) f e = let no : false ≡ true = rw leb-suc-zero at e in let z : ◌≡◌ {A = ℕ} 0 1 = cc in absurd (omega arith)
-turned-bits (negsuc n) f e =
+turned_bits : (v : ℤ) → SFits w64 v → lt_z v (pos 0) ≡ true → Turned v
+turned_bits (pos n) f e = let no : false ≡ true = rw leb-suc-zero at e in let z : ◌≡◌ {A = ℕ} 0 1 = cc in absurd (omega arith)
+turned_bits (negsuc n) f e =
     let back : 18446744073709551615 - (2 ^ 64 - suc n) ≡ n = omega (arith, f.sfits) in
     let before : suc n - 1 ≡ n = omega arith in
     record { below = λ h. h; some = omega arith; small = omega (arith, f.sfits); bits = rw (back, before) (to_z_pos w64 f.sfits) }
@@ -25,7 +25,7 @@ not_negative (negsuc n) e = let no : true ≡ false = e in let z : ◌≡◌ {A 
 -- the same by the test that the code makes, on the bits
 module _ (v : ℤ) (fits : SFits w64 v) where
   pub turned : lt_z (to_z w64 (of_z w64 v)) (pos 0) ≡ true → Turned v
-  turned e = turned-bits v fits (rw (to_z-of_z fits) at e)
+  turned e = turned_bits v fits (rw (to_z-of_z fits) at e)
 
   pub above : lt_z (to_z w64 (of_z w64 v)) (pos 0) ≡ false → T (non_neg v)
   above e = not_negative v (rw (to_z-of_z fits) at e)

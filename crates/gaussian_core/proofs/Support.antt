@@ -6,19 +6,19 @@ use lib.Ieee.Scale.{finite}
 use lib.Ieee.Positive.{num, den, positive, above, above_of_le, between, cross→le, mul_mono, first_pos}
 use borrow.Author.Tests.{not-false}
 use Rattle.distr.specs.Constants.{literal}
-use Rattle.distr.specs.Making.{badDeviation}
-use Rattle.distr.proofs.Reading.{or-false}
+use Rattle.distr.specs.Making.{bad_deviation}
+use Rattle.distr.proofs.Reading.{or_false}
 use Rattle.probability.proofs.Truncating.{power}
 
 -- 0.7, 12.0 and the product of a deviation and 12.0.
 abbrev smallest : Float
 smallest = literal 7 10
 
-abbrev pub tailCut : Float
-tailCut = literal 12 1
+abbrev pub tail_cut : Float
+tail_cut = literal 12 1
 
 abbrev pub product : Float → Float
-product deviation = mul binary64 deviation tailCut
+product deviation = mul binary64 deviation tail_cut
 
 -- What is not below a number above zero is above zero too, and no smaller.
 pub record AtLeast (lo x : Float) : Type 0 where
@@ -50,25 +50,25 @@ above-finite (inf s) a f = absurd f
 above-finite (fin true m e) a f = absurd a
 above-finite (fin false m e) a f = a
 
-le-self : (x : Float) → T (positive x) → T (le x x)
-le-self x p = cross→le x x p p (le_refl (num x * den x))
+le_self : (x : Float) → T (positive x) → T (le x x)
+le_self x p = cross→le x x p p (le_refl (num x * den x))
 
 -- The constants are numbers above zero, by computation.
 smallest-positive : T (positive smallest)
 unfolding round
 smallest-positive = tt
 
-tail-positive : T (positive tailCut)
+tail_positive : T (positive tail_cut)
 unfolding round
-tail-positive = tt
+tail_positive = tt
 
 -- A deviation of 0.7 at least whose square does not overflow.
 module _ (d : Float) (d-positive : T (positive d)) (d-least : T (le smallest d)) (square-finite : T (finite (mul binary64 d d))) where
   least : T (le (product smallest) (product d))
-  least = mul_mono binary64 smallest d tailCut tailCut smallest-positive d-positive tail-positive tail-positive d-least (le-self tailCut tail-positive)
+  least = mul_mono binary64 smallest d tail_cut tail_cut smallest-positive d-positive tail_positive tail_positive d-least (le_self tail_cut tail_positive)
 
-  square-positive : T (positive (mul binary64 d d))
-  square-positive =
+  square_positive : T (positive (mul binary64 d d))
+  square_positive =
       above-finite (mul binary64 d d)
       (above_of_le (mul binary64 smallest smallest) (mul binary64 d d) (unfold mul round in tt)
       (mul_mono binary64 smallest d smallest d smallest-positive d-positive smallest-positive d-positive d-least d-least))
@@ -79,36 +79,36 @@ module _ (d : Float) (d-positive : T (positive d)) (d-least : T (le smallest d))
 
   -- A deviation up to 12.0 has a product up to 144.0, and above it one up to the square.
   bounded : T (positive (product d))
-  bounded = go (ltb (num d * den tailCut) (num tailCut * den d)) refl
+  bounded = go (ltb (num d * den tail_cut) (num tail_cut * den d)) refl
     where
-      go : (b : Bool) → ltb (num d * den tailCut) (num tailCut * den d) ≡ b → T (positive (product d))
+      go : (b : Bool) → ltb (num d * den tail_cut) (num tail_cut * den d) ≡ b → T (positive (product d))
       go true h =
-          under (product tailCut) (unfold mul round in tt)
-          (mul_mono binary64 d tailCut tailCut tailCut d-positive tail-positive tail-positive tail-positive
-          (cross→le d tailCut d-positive tail-positive (le_of_lt (ltb-true (num d * den tailCut) (num tailCut * den d) h)))
-          (le-self tailCut tail-positive))
+          under (product tail_cut) (unfold mul round in tt)
+          (mul_mono binary64 d tail_cut tail_cut tail_cut d-positive tail_positive tail_positive tail_positive
+          (cross→le d tail_cut d-positive tail_positive (le_of_lt (ltb-true (num d * den tail_cut) (num tail_cut * den d) h)))
+          (le_self tail_cut tail_positive))
       go false h =
-          under (mul binary64 d d) square-positive
-          (mul_mono binary64 d d tailCut d d-positive d-positive tail-positive d-positive (le-self d d-positive)
-          (cross→le tailCut d tail-positive d-positive (ltb-false (num d * den tailCut) (num tailCut * den d) h)))
+          under (mul binary64 d d) square_positive
+          (mul_mono binary64 d d tail_cut d d-positive d-positive tail_positive d-positive (le_self d d-positive)
+          (cross→le tail_cut d tail_positive d-positive (ltb-false (num d * den tail_cut) (num tail_cut * den d) h)))
 
-pub is-so : (b : Bool) → not b ≡ false → T b
-is-so b h = subst T (sym (not-false b h)) tt
+pub is_so : (b : Bool) → not b ≡ false → T b
+is_so b h = subst T (sym (not-false b h)) tt
 
 -- The definition's tests, taken apart: an accepted deviation is 0.7 at least, and its square is finite.
-accepted : (d : Float) → badDeviation d ≡ false → AtLeast smallest d × T (finite (mul binary64 d d))
+accepted : (d : Float) → bad_deviation d ≡ false → AtLeast smallest d × T (finite (mul binary64 d d))
 accepted d h =
     let square = mul binary64 d d in
     let low = not (finite d) || lt d smallest in
-    let first = (or-false (low || not (finite square)) (not (finite (mul binary64 (literal 2 1) square))) h).0 in
-    let second = or-false low (not (finite square)) first in
-    let third = or-false (not (finite d)) (lt d smallest) second.0 in
-    (not-below d smallest (is-so (finite d) third.0) smallest-positive third.1, is-so (finite square) second.1)
+    let first = (or_false (low || not (finite square)) (not (finite (mul binary64 (literal 2 1) square))) h).0 in
+    let second = or_false low (not (finite square)) first in
+    let third = or_false (not (finite d)) (lt d smallest) second.0 in
+    (not-below d smallest (is_so (finite d) third.0) smallest-positive third.1, is_so (finite square) second.1)
 
-pub deviation-positive : (d : Float) → badDeviation d ≡ false → T (positive d)
+pub deviation-positive : (d : Float) → bad_deviation d ≡ false → T (positive d)
 deviation-positive d h = (accepted d h).0.above_zero
 
-pub product-positive : (d : Float) → badDeviation d ≡ false → T (positive (product d))
+pub product-positive : (d : Float) → bad_deviation d ≡ false → T (positive (product d))
 product-positive d h = let known = accepted d h in bounded d known.0.above_zero known.0.no_less known.1
 
 -- A number above zero that is not below 2 ^ w has a whole part of 2 ^ w at least.

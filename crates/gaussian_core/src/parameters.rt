@@ -1,7 +1,7 @@
 // Making a Gaussian's record: the deviation is judged, and its support derived, once.
 ghost use Rattle.std.specs.Prelude.{◌≡◌, max};
-ghost use Rattle.distr.specs.Making.{badDeviation};
-ghost use Rattle.gaussian_core.specs.Made.{madeParameters, refused};
+ghost use Rattle.distr.specs.Making.{bad_deviation};
+ghost use Rattle.gaussian_core.specs.Made.{made_parameters, refused};
 
 use distr::gaussian_parameters::GaussianParameters;
 use distr::limits::{DEFAULT_TAIL_CUT, MAX_MAGNITUDE, MIN_STANDARD_DEVIATION};
@@ -32,7 +32,7 @@ fn refuse(number: u32) -> MadeParameters
 
 // Whether a deviation is refused: not finite, too small, or a variance or twice a variance that is not finite.
 fn bad_deviation(standard_deviation: f64) -> bool
-    ensures { result ≡ badDeviation standard_deviation }
+    ensures { result ≡ bad_deviation standard_deviation }
 {
     let variance = standard_deviation * standard_deviation;
     !probability::is_finite(standard_deviation)
@@ -50,7 +50,7 @@ fn at_least_one(x: u64) -> u64
 
 // Judges the deviation and derives the largest magnitude, max(1, ⌊deviation × 12.0⌋) with the product rounded in f64.
 pub fn new_parameters(standard_deviation: f64) -> MadeParameters
-    ensures { result ≡ madeParameters standard_deviation }
+    ensures { result ≡ made_parameters standard_deviation }
 {
     if bad_deviation(standard_deviation) {
         return refuse(INVALID_STANDARD_DEVIATION);

@@ -26,9 +26,9 @@ module _ {A : Type 0} (all : List A → Bool) (none : all [] ≡ true) where
   each_all ok i xs h inv = sym (and-true ok) ∙ ap (λ (b : Bool). ok && b) (sym (ap all (drop_of_length-le xs h) ∙ none)) ∙ inv
 
   -- the test of each element and the one before it
-  pub pair-more : (test : A → A → Bool) → ((x y : A) (xs : List A) → all (x ∷ y ∷ xs) ≡ test x y && all (y ∷ xs))
+  pub pair_more : (test : A → A → Bool) → ((x y : A) (xs : List A) → all (x ∷ y ∷ xs) ≡ test x y && all (y ∷ xs))
       → (ok : Bool) (i : ℕ) (xs : List A) (d : A) → i < length xs → Paired all ok i xs → Paired all (ok && test (get_or xs (i - 1) d) (get_or xs i d)) (i + 1) xs
-  pair-more test step ok i xs d h inv = (
+  pair_more test step ok i xs d h inv = (
     omega arith,
     and_assoc ok (test a b) (all (drop (i + 1 - 1) xs))
         ∙ ap (λ (t : Bool). ok && t) (ap (λ (k : ℕ). test a b && all (drop k xs)) same ∙ sym first) ∙ inv.1,
@@ -51,8 +51,8 @@ module _ {A : Type 0} (all : List A → Bool) (none : all [] ≡ true) where
           ap all (drop-cons xs (i - 1) d (omega arith) ∙ ap (λ (k : ℕ). a ∷ drop k xs) next ∙ ap (λ (l : List A). a ∷ l) (drop-cons xs i d h))
           ∙ step a b (drop (suc i) xs) ∙ ap (λ (l : List A). test a b && all l) (sym (drop-cons xs i d h))
 
-  pub pair-all : ((x : A) → all (x ∷ []) ≡ true) → (ok : Bool) (i : ℕ) (xs : List A) → length xs ≤ i → Paired all ok i xs → ok ≡ all xs
-  pair-all one ok i xs h inv =
+  pub pair_all : ((x : A) → all (x ∷ []) ≡ true) → (ok : Bool) (i : ℕ) (xs : List A) → length xs ≤ i → Paired all ok i xs → ok ≡ all xs
+  pair_all one ok i xs h inv =
       sym (and-true ok) ∙ ap (λ (b : Bool). ok && b) (sym (short (drop (i - 1) xs) (omega (arith, length-drop (i - 1) xs)))) ∙ inv.1
     where
       short : (ys : List A) → length ys ≤ 1 → all ys ≡ true

@@ -10,36 +10,36 @@ use lib.Dec.{eqb, eqb-suc-suc}
 use lib.ListN.{length, get_or}
 use lib.Ieee.{Float}
 use Rattle.distr.specs.Constants.{literal}
-use Rattle.distr.specs.Layered.{inUnit}
-use Rattle.distr.specs.FirstWrong.{Asked, curveAsked, right, firstNot}
-use Rattle.distr.proofs.FirstWrong.{getD-there}
+use Rattle.distr.specs.Layered.{in_unit}
+use Rattle.distr.specs.FirstWrong.{Asked, curve_asked, right, first_not}
+use Rattle.distr.proofs.FirstWrong.{get_d_there}
 
 -- none of the first i entries is wrong
 abbrev pub Searched : (ℕ → Bool) → ℕ → ℕ → Type 0
-Searched right n i = (i ≤ n) × (firstNot right i (n - i) ≡ firstNot right 0 n)
+Searched right n i = (i ≤ n) × (first_not right i (n - i) ≡ first_not right 0 n)
 
 -- `test` is what the code makes of the entry at i
 module _ (right : ℕ → Bool) (n : ℕ) where
-  turn : (i : ℕ) → i < n → firstNot right i (n - i) ≡ cond (right i) (firstNot right (i + 1) (n - (i + 1))) i
-  unfolding firstNot
+  turn : (i : ℕ) → i < n → first_not right i (n - i) ≡ cond (right i) (first_not right (i + 1) (n - (i + 1))) i
+  unfolding first_not
   turn i h =
       let more : n - i ≡ suc (n - (i + 1)) = omega arith in
       rw (more, add-one i)
 
-  pub searched-none : Searched right n 0
-  searched-none =
+  pub searched_none : Searched right n 0
+  searched_none =
       let same : n - 0 ≡ n = omega arith in
       (omega arith, rw same)
 
-  pub searched-more : (i : ℕ) (test : Bool) → not test ≡ false → test ≡ right i → i < n → Searched right n i → Searched right n (i + 1)
-  searched-more i test t e h s = (omega arith, sym (rw (← e, not-false test t) at (turn i h)) ∙ s.1)
+  pub searched_more : (i : ℕ) (test : Bool) → not test ≡ false → test ≡ right i → i < n → Searched right n i → Searched right n (i + 1)
+  searched_more i test t e h s = (omega arith, sym (rw (← e, not-false test t) at (turn i h)) ∙ s.1)
 
-  pub searched-found : (i : ℕ) (test : Bool) → not test ≡ true → test ≡ right i → i < n → Searched right n i → i ≡ firstNot right 0 n
-  searched-found i test t e h s = sym (rw (← e, not-true test t) at (turn i h)) ∙ s.1
+  pub searched_found : (i : ℕ) (test : Bool) → not test ≡ true → test ≡ right i → i < n → Searched right n i → i ≡ first_not right 0 n
+  searched_found i test t e h s = sym (rw (← e, not-true test t) at (turn i h)) ∙ s.1
 
-  pub searched-all : (i : ℕ) → n ≤ i → Searched right n i → n ≡ firstNot right 0 n
-  unfolding firstNot
-  searched-all i h s =
+  pub searched_all : (i : ℕ) → n ≤ i → Searched right n i → n ≡ first_not right 0 n
+  unfolding first_not
+  searched_all i h s =
       let none : n - i ≡ 0 = omega arith in
       let last : n ≡ i = omega arith in
       last ∙ rw none at s.1
@@ -51,7 +51,7 @@ module _ {A : Type 0} (asked : Asked A) (none d : A) (xs : List A) where
       && (not (eqb (i + 1) (length xs)) || asked.last (get_or xs i d))
       ≡ right asked none xs i
   entry before i e h =
-      rw (e, getD-there xs i d none h, getD-there xs (i - 1) d none (omega arith))
+      rw (e, get_d_there xs i d none h, get_d_there xs (i - 1) d none (omega arith))
       (start (asked.each x) (eqb i 0) (asked.first x) (asked.next (get_or xs (i - 1) none) x) (not (eqb (i + 1) (length xs)) || asked.last x))
     where
       x : A
@@ -62,9 +62,9 @@ module _ {A : Type 0} (asked : Asked A) (none d : A) (xs : List A) where
       start a false f g z = rw (and-true a)
 
 -- of a curve value nothing is asked but its range
-pub value-entry : (d : Float) (ps : List Float) (i : ℕ) → i < length ps → inUnit (get_or ps i d) ≡ right curveAsked (literal 0 1) ps i
-value-entry d ps i h =
-    ap inUnit (getD-there ps i d (literal 0 1) h) ∙ alone (inUnit (get_or ps i (literal 0 1))) (eqb i 0) (not (eqb (i + 1) (length ps)))
+pub value_entry : (d : Float) (ps : List Float) (i : ℕ) → i < length ps → in_unit (get_or ps i d) ≡ right curve_asked (literal 0 1) ps i
+value_entry d ps i h =
+    ap in_unit (get_d_there ps i d (literal 0 1) h) ∙ alone (in_unit (get_or ps i (literal 0 1))) (eqb i 0) (not (eqb (i + 1) (length ps)))
   where
     alone : (a b z : Bool) → a ≡ a && cond b true true && (z || true)
     alone a true z = rw (or-true z, and-true (a && true), and-true a)

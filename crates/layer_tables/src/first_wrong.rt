@@ -1,12 +1,12 @@
 // Which list of refused layer tables is wrong, and where. These loops leave at the first wrong entry.
 ghost use Rattle.std.specs.Prelude.{◌≡◌};
 ghost use Rattle.distr.specs.Constants.{literal};
-ghost use Rattle.distr.specs.FirstWrong.{endpointsAsked, heightsAsked, curveAsked, firstWrong, rightSizes};
+ghost use Rattle.distr.specs.FirstWrong.{endpoints_asked, heights_asked, curve_asked, first_wrong, right_sizes};
 
 // Whether the lists are as long as they must be: an endpoint and a height more than layers, of which there are 128, 256 or 512, and a curve value for
 // each magnitude.
 pub fn sizes_ok(maximum_magnitude: u64, endpoints: &[u64], heights: &[f64], curve: &[f64]) -> bool
-    ensures { result ≡ rightSizes maximum_magnitude
+    ensures { result ≡ right_sizes maximum_magnitude
         (record { endpoints = endpoints.entry.now; heights = heights.now; curve = curve.now }) }
 {
     let n = endpoints.len();
@@ -26,7 +26,7 @@ pub fn sizes_ok(maximum_magnitude: u64, endpoints: &[u64], heights: &[f64], curv
 // The first wrong endpoint, or their number where none is: the first is 0, none is below the one before it and the last is the largest magnitude.
 // Of a pair out of order the later is wrong.
 pub fn first_wrong_endpoint(maximum_magnitude: u64, endpoints: &[u64]) -> usize
-    ensures { result ≡ firstWrong (endpointsAsked maximum_magnitude) 0 endpoints.now }
+    ensures { result ≡ first_wrong (endpoints_asked maximum_magnitude) 0 endpoints.now }
 {
     let n = endpoints.len();
     let mut before: usize = 0;
@@ -48,7 +48,7 @@ pub fn first_wrong_endpoint(maximum_magnitude: u64, endpoints: &[u64]) -> usize
 // The first wrong height, or their number where none is: each is finite, the first is above 0.999, each other below the one before it, and the
 // last is 0.
 pub fn first_wrong_height(heights: &[f64]) -> usize
-    ensures { result ≡ firstWrong heightsAsked (literal 0 1) heights.now }
+    ensures { result ≡ first_wrong heights_asked (literal 0 1) heights.now }
 {
     let n = heights.len();
     let mut before: usize = 0;
@@ -69,7 +69,7 @@ pub fn first_wrong_height(heights: &[f64]) -> usize
 
 // The first wrong curve value, or their number where none is: each is in 0..1, both ends in.
 pub fn first_wrong_value(curve: &[f64]) -> usize
-    ensures { result ≡ firstWrong curveAsked (literal 0 1) curve.now }
+    ensures { result ≡ first_wrong curve_asked (literal 0 1) curve.now }
 {
     let n = curve.len();
     let mut i: usize = 0;

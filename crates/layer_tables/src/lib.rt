@@ -1,8 +1,8 @@
 // Inner crate of primus_distr: the lent tables of the layered Gaussian, judged before a draw (numbers 13, 30, 31 and 32). The loops of this file have
 // no way out but their end.
 ghost use Rattle.std.specs.Prelude.{cond, ◌≡◌, eqb};
-ghost use Rattle.distr.specs.Layered.{allFinite, falls, allInUnit, heightList, curveList, layerTables};
-ghost use Rattle.layer_tables.specs.Fault.{layerFault};
+ghost use Rattle.distr.specs.Layered.{all_finite, falls, all_in_unit, height_list, curve_list, layer_tables};
+ghost use Rattle.layer_tables.specs.Fault.{layer_fault};
 
 use distr::refusal::{INVALID_CURVE_VALUE, INVALID_ENDPOINT, INVALID_HEIGHT, INVALID_LAYER_TABLES};
 use first_wrong::{first_wrong_endpoint, first_wrong_height, first_wrong_value, sizes_ok};
@@ -19,7 +19,7 @@ pub struct LayerFault {
 
 // Whether each element is a number and no infinity.
 fn all_finite(xs: &[f64]) -> bool
-    ensures { result ≡ allFinite xs.now }
+    ensures { result ≡ all_finite xs.now }
 {
     let mut ok = true;
     let mut i: usize = 0;
@@ -45,7 +45,7 @@ fn falls(xs: &[f64]) -> bool
 
 // Whether each element is in 0..1, both ends in.
 fn all_in_unit(xs: &[f64]) -> bool
-    ensures { result ≡ allInUnit xs.now }
+    ensures { result ≡ all_in_unit xs.now }
 {
     let mut ok = true;
     let mut i: usize = 0;
@@ -59,7 +59,7 @@ fn all_in_unit(xs: &[f64]) -> bool
 
 // The heights of so many layers: one more, finite, falling at each step from above 0.999 to 0.
 fn heights_ok(layers: usize, heights: &[f64]) -> bool
-    ensures { result ≡ heightList layers heights.now }
+    ensures { result ≡ height_list layers heights.now }
 {
     let n = heights.len();
     if n == 0 {
@@ -73,7 +73,7 @@ fn heights_ok(layers: usize, heights: &[f64]) -> bool
 
 // The curve of a support: a value for each magnitude, in 0..1.
 fn curve_ok(maximum_magnitude: u64, curve: &[f64]) -> bool
-    ensures { result ≡ curveList maximum_magnitude curve.now }
+    ensures { result ≡ curve_list maximum_magnitude curve.now }
 {
     let n = curve.len();
     if n == 0 {
@@ -92,7 +92,7 @@ fn layer_tables_ok(
     heights: &[f64],
     curve: &[f64],
 ) -> bool
-    ensures { result ≡ layerTables maximum_magnitude
+    ensures { result ≡ layer_tables maximum_magnitude
         (record { endpoints = endpoints.entry.now; heights = heights.now; curve = curve.now }) }
 {
     let n = endpoints.len();
@@ -123,7 +123,7 @@ fn find_fault(
     heights: &[f64],
     curve: &[f64],
 ) -> LayerFault
-    ensures { result ≡ layerFault maximum_magnitude
+    ensures { result ≡ layer_fault maximum_magnitude
         (record { endpoints = endpoints.entry.now; heights = heights.now; curve = curve.now }) }
 {
     if !sizes_ok(maximum_magnitude, endpoints, heights, curve) {
@@ -152,7 +152,7 @@ pub fn check_layer_tables(
     heights: &[f64],
     curve: &[f64],
 ) -> LayerFault
-    ensures { result ≡ layerFault maximum_magnitude
+    ensures { result ≡ layer_fault maximum_magnitude
         (record { endpoints = endpoints.entry.now; heights = heights.now; curve = curve.now }) }
 {
     if layer_tables_ok(maximum_magnitude, endpoints, heights, curve) {

@@ -18,8 +18,8 @@ use Rattle.little_endian.proofs.OneToOne.{length-bytes}
 -- ---- the eight bytes of a number
 
 -- as the code takes them out of it
-abbrev pub eightBytes : ℕ → List ℕ
-eightBytes x =
+abbrev pub eight_bytes : ℕ → List ℕ
+eight_bytes x =
     x % 2 ^ 8
     ∷ x / 2 ^ 8 % 2 ^ 8
     ∷ x / 2 ^ 16 % 2 ^ 8
@@ -30,9 +30,9 @@ eightBytes x =
     ∷ x / 2 ^ 56
     ∷ []
 
-pub eight-digits : (x : ℕ) → x < 2 ^ 64 → eightBytes x ≡ digits 256 8 x
+pub eight_digits : (x : ℕ) → x < 2 ^ 64 → eight_bytes x ≡ digits 256 8 x
 unfolding digits
-eight-digits x h =
+eight_digits x h =
     rw (
       div-div-eq-div-mul x (2 ^ 8) 256,
       div-div-eq-div-mul x (2 ^ 16) 256,

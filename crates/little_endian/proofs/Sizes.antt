@@ -6,7 +6,7 @@ use native.Mathlib.Nat.{div-add-mod, mul-div_cancel_left, mul-mod_right}
 use native.Mathlib.Omega.{arith}
 use borrow.Author.Tests.{eqb-true, eq-eqb, ne_eqb, not-false}
 use lib.Dec.{eqb}
-use Rattle.distr.proofs.Reading.{or-false}
+use Rattle.distr.proofs.Reading.{or_false}
 
 module _ (size n each : ℕ) (some : 0 < each) where
   abbrev misfit : Bool
@@ -14,7 +14,7 @@ module _ (size n each : ℕ) (some : 0 < each) where
 
   pub fitting : misfit ≡ false → size ≡ each * n
   fitting e =
-      let parts = or-false (not (eqb (size / each) n)) (not (eqb (size % each) 0)) e in
+      let parts = or_false (not (eqb (size / each) n)) (not (eqb (size % each) 0)) e in
       let q = eqb-true (size / each) n (not-false (eqb (size / each) n) parts.0) in
       let r = eqb-true (size % each) 0 (not-false (eqb (size % each) 0) parts.1) in
       omega (arith, div-add-mod size each, ap (λ (k : ℕ). each * k) q)

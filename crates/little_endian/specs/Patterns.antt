@@ -2,12 +2,12 @@
 use Rattle.std.specs.Prelude.{ℕ, ◌-◌, ◌^◌, Bool, cond, ◌&&◌, List, map, ltb, ℤ, pos, negsuc}
 
 -- Signed bits from 2^63 on are those of a negative number.
-abbrev pub isMinus : Bool → ℕ → Bool
-isMinus signed bits = signed && ltb (2 ^ 63 - 1) bits
+abbrev pub is_minus : Bool → ℕ → Bool
+is_minus signed bits = signed && ltb (2 ^ 63 - 1) bits
 
 -- What bits stand for.
 unfoldable pub value_of : Bool → ℕ → ℤ
-value_of signed bits = cond (isMinus signed bits) (negsuc (2 ^ 64 - 1 - bits)) (pos bits)
+value_of signed bits = cond (is_minus signed bits) (negsuc (2 ^ 64 - 1 - bits)) (pos bits)
 
 abbrev pub values_of : Bool → List ℕ → List ℤ
 values_of signed bits = map (value_of signed) bits

@@ -6,7 +6,7 @@ ghost use Rattle.distr.specs.Draw.{outcome};
 ghost use Rattle.distr.specs.Answers.{sums, reported};
 ghost use Rattle.output_i64.specs.Out.{held};
 ghost use Rattle.signed_discrete_gaussian.specs.Lent.{lent};
-ghost use Rattle.method_draws.specs.Drawing.{methodDraw, methodSkips};
+ghost use Rattle.method_draws.specs.Drawing.{method_draw, method_skips};
 
 use cdt_i64::sample_cdt_to;
 use centered_binomial_i64::draw::sample_binomial_to as sample_binomial;
@@ -38,10 +38,10 @@ pub fn sample_to_with(
     words: &[u32],
     place: usize,
 ) -> Answer
-    ensures output_after { outcome result output.new ≡ methodDraw (held encoding) method
+    ensures output_after { outcome result output.new ≡ method_draw (held encoding) method
         (lent bounds.now endpoints.now heights.now curve.now)
         words.now place output.old }
-    ensures result_value { sums result ≡ reported result.number (methodSkips method (lent bounds.now endpoints.now heights.now curve.now) (length output.old) (drop place words.now)) }
+    ensures result_value { sums result ≡ reported result.number (method_skips method (lent bounds.now endpoints.now heights.now curve.now) (length output.old) (drop place words.now)) }
 {
     match method {
         SamplingMethod::UniformBinary => sample_uniform_binary(output, encoding, words, place),

@@ -8,12 +8,12 @@ use lib.Ieee.Positive.{positive, positive-finite}
 use Rattle.distr.specs.Constants.{literal}
 use Rattle.gaussian_core.proofs.SameFloat.{eq_self}
 
-pub positive-equal : (x : Float) → T (positive x) → eq x x ≡ true
-positive-equal x p = eq_self x (positive-finite x p)
+pub positive_equal : (x : Float) → T (positive x) → eq x x ≡ true
+positive_equal x p = eq_self x (positive-finite x p)
 
-pub zero-equal : eq (literal 0 1) (literal 0 1) ≡ true
+pub zero_equal : eq (literal 0 1) (literal 0 1) ≡ true
 unfolding eq round
-zero-equal = refl
+zero_equal = refl
 
 pub zero-fits : T (fits binary64 (literal 0 1))
 zero-fits = round-fits binary64 false 0 1

@@ -5,9 +5,9 @@ use lib.Dec.{T, eqb, eqb→eq}
 use lib.Ieee.{eq}
 use lib.Ieee.Fits.{and_l, and_r}
 use borrow.Author.Tests.{eq-eqb}
-use Rattle.gaussian_core.proofs.SameFloat.{beq_same, beq-self}
+use Rattle.gaussian_core.proofs.SameFloat.{beq_same, beq_self}
 use Rattle.methods.specs.declared.key.MethodKey.{MethodKey}
-use Rattle.methods.specs.Keys.{sameKey}
+use Rattle.methods.specs.Keys.{same_key}
 
 -- The test of two keys, taken apart.
 pub record Same (a b : MethodKey) : Type 0 where
@@ -17,7 +17,7 @@ pub record Same (a b : MethodKey) : Type 0 where
   pub second : a.second ≡ b.second
   pub deviation : T (eq a.deviation b.deviation)
 
-pub same_parts : (a b : MethodKey) → T (sameKey a b) → Same a b
+pub same_parts : (a b : MethodKey) → T (same_key a b) → Same a b
 same_parts a b h =
     let kinds = eqb a.kind b.kind in
     let flags = beq a.full b.full in
@@ -36,5 +36,5 @@ same_parts a b h =
     }
 
 -- A key passes the test against itself, if the deviation is a number.
-pub same-itself : (a : MethodKey) → eq a.deviation a.deviation ≡ true → sameKey a a ≡ true
-same-itself a e = rw (eq-eqb a.kind a.kind refl, beq-self a.full, eq-eqb a.first a.first refl, eq-eqb a.second a.second refl, e)
+pub same_itself : (a : MethodKey) → eq a.deviation a.deviation ≡ true → same_key a a ≡ true
+same_itself a e = rw (eq-eqb a.kind a.kind refl, beq_self a.full, eq-eqb a.first a.first refl, eq-eqb a.second a.second refl, e)

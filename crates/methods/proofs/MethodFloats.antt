@@ -12,11 +12,11 @@ use Rattle.methods.specs.declared.SamplingMethod.{SamplingMethod}
 use Rattle.methods.specs.declared.SamplingMethod.TheVariants.{UniformBinary, Binary, SparseTernary, UniformTernary, Ternary, Empty}
 use Rattle.methods.specs.declared.SamplingMethod.TheVariants.{FixedHammingWeightBinary, BlockBinary, Gaussian, CenteredBinomial}
 use Rattle.methods.specs.declared.SamplingMethod.TheVariants.{FixedHammingWeightTernary, FixedCompositionTernary}
-use Rattle.methods.specs.Keys.{ternaryKey, methodKey}
+use Rattle.methods.specs.Keys.{ternary_key, method_key}
 use Rattle.methods.proofs.Deviation.{zero-fits}
 use Rattle.methods.specs.contracts.SamplingMethod.{the_field as method-field, the_type as method-type}
 
-pub ternary-fits : (s : TernaryEnds) → T (fits binary64 (ternaryKey s).deviation)
+pub ternary-fits : (s : TernaryEnds) → T (fits binary64 (ternary_key s).deviation)
 ternary-fits (Constant MinusOne) = zero-fits
 ternary-fits (Constant Zero) = zero-fits
 ternary-fits (Constant One) = zero-fits
@@ -24,7 +24,7 @@ ternary-fits (Nonzero N) = zero-fits
 ternary-fits (General N E) = zero-fits
 
 pub method-fits : (m : SamplingMethod) (vs : List Val) → shadow (method-field.row.own_val (method-type.to m) vs)
-    → T (fits binary64 (methodKey m).deviation)
+    → T (fits binary64 (method_key m).deviation)
 method-fits UniformBinary vs p = zero-fits
 method-fits (Binary t) vs p = zero-fits
 method-fits SparseTernary vs p = zero-fits

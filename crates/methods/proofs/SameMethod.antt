@@ -21,13 +21,13 @@ use Rattle.methods.specs.declared.SamplingMethod.{SamplingMethod}
 use Rattle.methods.specs.declared.SamplingMethod.TheVariants.{UniformBinary, Binary, SparseTernary, UniformTernary, Ternary, Empty}
 use Rattle.methods.specs.declared.SamplingMethod.TheVariants.{FixedHammingWeightBinary, BlockBinary, Gaussian, CenteredBinomial}
 use Rattle.methods.specs.declared.SamplingMethod.TheVariants.{FixedHammingWeightTernary, FixedCompositionTernary}
-use Rattle.methods.specs.Keys.{sameKey, ternaryKey, methodKey}
-use Rattle.methods.proofs.Keys.{same_parts, same-itself}
-use Rattle.methods.proofs.Deviation.{positive-equal, zero-equal}
+use Rattle.methods.specs.Keys.{same_key, ternary_key, method_key}
+use Rattle.methods.proofs.Keys.{same_parts, same_itself}
+use Rattle.methods.proofs.Deviation.{positive_equal, zero_equal}
 
 -- The method back from its key, by its kind; only a Gaussian's kind looks at the deviation.
-abbrev plainMethods : Bool → ℕ → ℕ → List SamplingMethod
-plainMethods full first second =
+abbrev plain_methods : Bool → ℕ → ℕ → List SamplingMethod
+plain_methods full first second =
     Empty
     ∷ UniformBinary
     ∷ Binary (record { full = full; below = first })
@@ -47,30 +47,30 @@ plainMethods full first second =
     ∷ CenteredBinomial (record { eta = first; mask = second })
     ∷ []
 
-methodOf : ℕ → Bool → ℕ → ℕ → Float → SamplingMethod
-methodOf kind full first second deviation =
+method_of : ℕ → Bool → ℕ → ℕ → Float → SamplingMethod
+method_of kind full first second deviation =
     cond (eqb kind 15) (Gaussian (record { standard_deviation = deviation; maximum_magnitude = first }))
-    (get_or (plainMethods full first second) kind Empty)
+    (get_or (plain_methods full first second) kind Empty)
 
-abbrev ofKey : MethodKey → SamplingMethod
-ofKey a = methodOf a.kind a.full a.first a.second a.deviation
+abbrev of_key : MethodKey → SamplingMethod
+of_key a = method_of a.kind a.full a.first a.second a.deviation
 
 -- Nothing of a method is lost in its key.
-ternary-back : (s : TernaryEnds) → ofKey (ternaryKey s) ≡ Ternary s
-unfolding methodOf
-ternary-back (Constant MinusOne) = refl
-ternary-back (Constant Zero) = refl
-ternary-back (Constant One) = refl
-ternary-back (Nonzero N) = refl
-ternary-back (General N E) = refl
+ternary_back : (s : TernaryEnds) → of_key (ternary_key s) ≡ Ternary s
+unfolding method_of
+ternary_back (Constant MinusOne) = refl
+ternary_back (Constant Zero) = refl
+ternary_back (Constant One) = refl
+ternary_back (Nonzero N) = refl
+ternary_back (General N E) = refl
 
-key_back : (m : SamplingMethod) → ofKey (methodKey m) ≡ m
-unfolding methodOf
+key_back : (m : SamplingMethod) → of_key (method_key m) ≡ m
+unfolding method_of
 key_back UniformBinary = refl
 key_back (Binary t) = refl
 key_back SparseTernary = refl
 key_back UniformTernary = refl
-key_back (Ternary s) = ternary-back s
+key_back (Ternary s) = ternary_back s
 key_back (FixedHammingWeightBinary h) = refl
 key_back (BlockBinary size AtMostOne) = refl
 key_back (BlockBinary size ExactlyOne) = refl
@@ -82,16 +82,16 @@ key_back Empty = refl
 
 -- Keys that pass the test give one method, if those of a Gaussian give one deviation.
 other-deviation : (kind : ℕ) (full : Bool) (first second : ℕ) (x y : Float) → (kind ≡ 15 → x ≡ y)
-    → methodOf kind full first second x ≡ methodOf kind full first second y
-unfolding methodOf
+    → method_of kind full first second x ≡ method_of kind full first second y
+unfolding method_of
 other-deviation kind full first second x y h = go (eqb kind 15) refl
   where
-    go : (b : Bool) → eqb kind 15 ≡ b → methodOf kind full first second x ≡ methodOf kind full first second y
+    go : (b : Bool) → eqb kind 15 ≡ b → method_of kind full first second x ≡ method_of kind full first second y
     go true e = rw (h (eqb-true kind 15 e))
     go false e = rw e
 
-same-method : (a b : MethodKey) → T (sameKey a b) → (b.kind ≡ 15 → T (eq a.deviation b.deviation) → a.deviation ≡ b.deviation)
-    → ofKey a ≡ ofKey b
+same-method : (a b : MethodKey) → T (same_key a b) → (b.kind ≡ 15 → T (eq a.deviation b.deviation) → a.deviation ≡ b.deviation)
+    → of_key a ≡ of_key b
 same-method a b h deviation =
     let same = same_parts a b h in
     rw (same.kind, same.full, same.first, same.second)
@@ -102,7 +102,7 @@ pub data Kept (kind : ℕ) (x : Float) : Type 0 where
   gaussian : T (positive x) → Kept kind x
   other : (kind ≡ 15 → ⊥) → x ≡ literal 0 1 → Kept kind x
 
-pub kept-ternary : (s : TernaryEnds) → Kept (ternaryKey s).kind (ternaryKey s).deviation
+pub kept-ternary : (s : TernaryEnds) → Kept (ternary_key s).kind (ternary_key s).deviation
 kept-ternary (Constant MinusOne) = other (λ e. omega (arith, e)) refl
 kept-ternary (Constant Zero) = other (λ e. omega (arith, e)) refl
 kept-ternary (Constant One) = other (λ e. omega (arith, e)) refl
@@ -113,19 +113,19 @@ kept-positive : (kind : ℕ) (x : Float) → Kept kind x → kind ≡ 15 → T (
 kept-positive kind x (gaussian p) e = p
 kept-positive kind x (other never z) e = absurd (never e)
 
-kept-equal : (kind : ℕ) (x : Float) → Kept kind x → eq x x ≡ true
-kept-equal kind x (gaussian p) = positive-equal x p
-kept-equal kind x (other never z) = rw z zero-equal
+kept_equal : (kind : ℕ) (x : Float) → Kept kind x → eq x x ≡ true
+kept_equal kind x (gaussian p) = positive_equal x p
+kept_equal kind x (other never z) = rw z zero_equal
 
 -- A method whose key is that of one that making gave, where the floats are values of f64, is that one, and that one has its own key.
-module _ (wanted : SamplingMethod) (keeps : Kept (methodKey wanted).kind (methodKey wanted).deviation) where
-  pub same_kept : (m : SamplingMethod) → T (fits binary64 (methodKey m).deviation) → T (fits binary64 (methodKey wanted).deviation)
-      → T (sameKey (methodKey m) (methodKey wanted)) → m ≡ wanted
+module _ (wanted : SamplingMethod) (keeps : Kept (method_key wanted).kind (method_key wanted).deviation) where
+  pub same_kept : (m : SamplingMethod) → T (fits binary64 (method_key m).deviation) → T (fits binary64 (method_key wanted).deviation)
+      → T (same_key (method_key m) (method_key wanted)) → m ≡ wanted
   same_kept m mine its h =
       sym (key_back m)
-      ∙ same-method (methodKey m) (methodKey wanted) h
-      (λ e q. eq-same binary64 (methodKey m).deviation (methodKey wanted).deviation mine its (kept-positive _ _ keeps e) q)
+      ∙ same-method (method_key m) (method_key wanted) h
+      (λ e q. eq-same binary64 (method_key m).deviation (method_key wanted).deviation mine its (kept-positive _ _ keeps e) q)
       ∙ key_back wanted
 
-  pub kept_same : sameKey (methodKey wanted) (methodKey wanted) ≡ true
-  kept_same = same-itself (methodKey wanted) (kept-equal _ _ keeps)
+  pub kept_same : same_key (method_key wanted) (method_key wanted) ≡ true
+  kept_same = same_itself (method_key wanted) (kept_equal _ _ keeps)

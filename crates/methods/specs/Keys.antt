@@ -17,39 +17,39 @@ abbrev pub key_of : ℕ → Bool → ℕ → ℕ → Float → MethodKey
 key_of kind full first second deviation = record { kind = kind; full = full; first = first; second = second; deviation = deviation }
 
 -- The key of a kind that holds two numbers at most; 0.0 stands for the deviation.
-abbrev pub plainKey : ℕ → ℕ → ℕ → MethodKey
-plainKey kind first second = key_of kind false first second (literal 0 1)
+abbrev pub plain_key : ℕ → ℕ → ℕ → MethodKey
+plain_key kind first second = key_of kind false first second (literal 0 1)
 
-abbrev pub ternaryKey : TernaryEnds → MethodKey
-ternaryKey (Constant MinusOne) = plainKey 5 0 0
-ternaryKey (Constant Zero) = plainKey 6 0 0
-ternaryKey (Constant One) = plainKey 7 0 0
-ternaryKey (Nonzero N) = plainKey 8 N 0
-ternaryKey (General N E) = plainKey 9 N E
+abbrev pub ternary_key : TernaryEnds → MethodKey
+ternary_key (Constant MinusOne) = plain_key 5 0 0
+ternary_key (Constant Zero) = plain_key 6 0 0
+ternary_key (Constant One) = plain_key 7 0 0
+ternary_key (Nonzero N) = plain_key 8 N 0
+ternary_key (General N E) = plain_key 9 N E
 
-abbrev pub methodKey : SamplingMethod → MethodKey
-methodKey UniformBinary = plainKey 1 0 0
-methodKey (Binary t) = key_of 2 t.full t.below 0 (literal 0 1)
-methodKey SparseTernary = plainKey 3 0 0
-methodKey UniformTernary = plainKey 4 0 0
-methodKey (Ternary s) = ternaryKey s
-methodKey (FixedHammingWeightBinary h) = plainKey 10 h 0
-methodKey (BlockBinary size AtMostOne) = plainKey 11 size 0
-methodKey (BlockBinary size ExactlyOne) = plainKey 12 size 0
-methodKey (FixedHammingWeightTernary h) = plainKey 13 h 0
-methodKey (FixedCompositionTernary minus ones) = plainKey 14 minus ones
-methodKey (Gaussian parameters) = key_of 15 false parameters.maximum_magnitude 0 parameters.standard_deviation
-methodKey (CenteredBinomial parameters) = plainKey 16 parameters.eta parameters.mask
-methodKey Empty = plainKey 0 0 0
+abbrev pub method_key : SamplingMethod → MethodKey
+method_key UniformBinary = plain_key 1 0 0
+method_key (Binary t) = key_of 2 t.full t.below 0 (literal 0 1)
+method_key SparseTernary = plain_key 3 0 0
+method_key UniformTernary = plain_key 4 0 0
+method_key (Ternary s) = ternary_key s
+method_key (FixedHammingWeightBinary h) = plain_key 10 h 0
+method_key (BlockBinary size AtMostOne) = plain_key 11 size 0
+method_key (BlockBinary size ExactlyOne) = plain_key 12 size 0
+method_key (FixedHammingWeightTernary h) = plain_key 13 h 0
+method_key (FixedCompositionTernary minus ones) = plain_key 14 minus ones
+method_key (Gaussian parameters) = key_of 15 false parameters.maximum_magnitude 0 parameters.standard_deviation
+method_key (CenteredBinomial parameters) = plain_key 16 parameters.eta parameters.mask
+method_key Empty = plain_key 0 0 0
 
 -- The same key, floats as f64 compares them.
-abbrev pub sameKey : MethodKey → MethodKey → Bool
-sameKey a b =
+abbrev pub same_key : MethodKey → MethodKey → Bool
+same_key a b =
     eqb a.kind b.kind && beq a.full b.full && eqb a.first b.first && eqb a.second b.second && eq a.deviation b.deviation
 
 -- The centered binomial's method; and "CRT draws serve the Gaussian and the centered binomial".
-abbrev pub isBinomial : SamplingMethod → Bool
-isBinomial method = eqb (methodKey method).kind 16
+abbrev pub is_binomial : SamplingMethod → Bool
+is_binomial method = eqb (method_key method).kind 16
 
-abbrev pub isServed : SamplingMethod → Bool
-isServed method = eqb (methodKey method).kind 15 || eqb (methodKey method).kind 16
+abbrev pub is_served : SamplingMethod → Bool
+is_served method = eqb (method_key method).kind 15 || eqb (method_key method).kind 16

@@ -1,6 +1,6 @@
 // The key of a method: a record of numbers, by which two methods are compared number by number.
 ghost use Rattle.std.specs.Prelude.{◌≡◌};
-ghost use Rattle.methods.specs.Keys.{plainKey, sameKey, ternaryKey, methodKey, isBinomial, isServed};
+ghost use Rattle.methods.specs.Keys.{plain_key, same_key, ternary_key, method_key, is_binomial, is_served};
 
 use crate::SamplingMethod;
 use distr::secret_key_distr::BlockOccupancy;
@@ -23,7 +23,7 @@ pub struct MethodKey {
 
 // The key of a method of a kind that holds two numbers at most.
 fn plain(kind: u32, first: u64, second: u64) -> MethodKey
-    ensures { result ≡ plainKey kind first second }
+    ensures { result ≡ plain_key kind first second }
 {
     MethodKey {
         kind,
@@ -36,7 +36,7 @@ fn plain(kind: u32, first: u64, second: u64) -> MethodKey
 
 // The key of the ternary sampler.
 fn ternary_key(sampler: TernaryEnds) -> MethodKey
-    ensures { result ≡ ternaryKey sampler }
+    ensures { result ≡ ternary_key sampler }
 {
     match sampler {
         TernaryEnds::Constant(value) => match value {
@@ -54,7 +54,7 @@ fn ternary_key(sampler: TernaryEnds) -> MethodKey
 
 // The key of a method.
 pub fn method_key(method: SamplingMethod) -> MethodKey
-    ensures { result ≡ methodKey method }
+    ensures { result ≡ method_key method }
 {
     match method {
         SamplingMethod::UniformBinary => plain(1, 0, 0),
@@ -99,7 +99,7 @@ pub fn method_key(method: SamplingMethod) -> MethodKey
 
 // Whether two keys are the same, the deviations as f64 compares them.
 pub fn same_key(a: MethodKey, b: MethodKey) -> bool
-    ensures { result ≡ sameKey a b }
+    ensures { result ≡ same_key a b }
 {
     (a.kind == b.kind)
         & (a.full == b.full)
@@ -110,14 +110,14 @@ pub fn same_key(a: MethodKey, b: MethodKey) -> bool
 
 // Whether the method is the centered binomial's, whose residues are a CRT draw of one row.
 pub fn is_binomial(method: SamplingMethod) -> bool
-    ensures { result ≡ isBinomial method }
+    ensures { result ≡ is_binomial method }
 {
     method_key(method).kind == CENTERED_BINOMIAL
 }
 
 // Whether CRT draws serve the method.
 pub fn is_served(method: SamplingMethod) -> bool
-    ensures { result ≡ isServed method }
+    ensures { result ≡ is_served method }
 {
     let kind = method_key(method).kind;
     (kind == GAUSSIAN) | (kind == CENTERED_BINOMIAL)

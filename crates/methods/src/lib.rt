@@ -4,9 +4,9 @@ pub mod key;
 
 ghost use Rattle.std.specs.Prelude.{◌≡◌, not, [], ◌∷◌};
 ghost use Rattle.distr.specs.Making.{refuse};
-ghost use Rattle.distr.specs.Constants.{neverMade};
-ghost use Rattle.distr.specs.Numbers.{first_of, modulusNumber};
-ghost use Rattle.methods.specs.Method.{judgedMethod, testedMethod, magnitudeOf, length_of};
+ghost use Rattle.distr.specs.Constants.{never_made};
+ghost use Rattle.distr.specs.Numbers.{first_of, modulus_number};
+ghost use Rattle.methods.specs.Method.{judged_method, tested_method, magnitude_of, length_of};
 
 use centered_binomial::CenteredBinomialParameters;
 use distr::gaussian_parameters::GaussianParameters;
@@ -52,7 +52,7 @@ pub struct PreparedMethod {
 
 // What making prepares: a number and, where it is 0, the method.
 pub fn judged(number: u32, method: SamplingMethod) -> PreparedMethod
-    ensures { result ≡ judgedMethod number method }
+    ensures { result ≡ judged_method number method }
 {
     if number == 0 {
         PreparedMethod { number: 0, method }
@@ -66,7 +66,7 @@ pub fn judged(number: u32, method: SamplingMethod) -> PreparedMethod
 
 // What a sampler draws by: its method, with 21 where making never gives the sampler.
 pub fn tested(made: bool, method: SamplingMethod) -> PreparedMethod
-    ensures { result ≡ testedMethod made method }
+    ensures { result ≡ tested_method made method }
 {
     if made {
         PreparedMethod { number: 0, method }
@@ -80,7 +80,7 @@ pub fn tested(made: bool, method: SamplingMethod) -> PreparedMethod
 
 // An inclusive bound on every coefficient's magnitude: the Gaussian's support, the centered binomial's eta, else 1.
 pub fn maximum_magnitude(method: SamplingMethod) -> u64
-    ensures { result ≡ magnitudeOf method }
+    ensures { result ≡ magnitude_of method }
 {
     match method {
         SamplingMethod::UniformBinary => 1,
@@ -136,7 +136,7 @@ pub fn length_number(method: SamplingMethod, length: usize) -> u32
 
 // 9 for a modulus that is not above the largest magnitude of a method, else 0.
 pub fn modulus_number(largest: u64, modulus: u64) -> u32
-    ensures { result ≡ modulusNumber largest modulus }
+    ensures { result ≡ modulus_number largest modulus }
 {
     if modulus <= largest {
         MODULUS_TOO_SMALL
@@ -147,7 +147,7 @@ pub fn modulus_number(largest: u64, modulus: u64) -> u32
 
 // What a sampler answers of a modulus: 21 where making never gives it, else the number of the modulus by its largest magnitude.
 pub fn validated_modulus(made: bool, largest: u64, modulus: u64) -> u32
-    ensures { result ≡ first_of (refuse (not made) neverMade ∷ modulusNumber largest modulus ∷ []) }
+    ensures { result ≡ first_of (refuse (not made) never_made ∷ modulus_number largest modulus ∷ []) }
 {
     if made {
         modulus_number(largest, modulus)

@@ -10,18 +10,18 @@ use lib.ListN.{length, get_or, drop, replicate, length-drop}
 use lib.Seq.{get_or-drop}
 use lib.IntN.{ℤ, pos}
 use Rattle.distr.specs.declared.answer.Answer.{Answer}
-use Rattle.distr.specs.Words.{got, short, mapRead}
-use Rattle.distr.specs.Rule.{Rule, constant, wideWords}
+use Rattle.distr.specs.Words.{got, short, map_read}
+use Rattle.distr.specs.Rule.{Rule, constant, wide_words}
 use Rattle.distr.specs.Numbers.{first_of}
 use Rattle.distr.specs.Skipped.{Skipped, nothing}
 use Rattle.distr.specs.Answers.{sums, reported}
-use Rattle.distr.specs.Draw.{Outcome, outcome, ruleDraw}
+use Rattle.distr.specs.Draw.{Outcome, outcome, rule_draw}
 use Rattle.distr.proofs.Reading.{wides, many-wide}
 use Rattle.distr.proofs.Writing.{map-map, map-replicate}
 use Rattle.distr.proofs.Drawing.{rule-got, rule-short}
-use Rattle.distr.proofs.Skipping.{reports-nothing}
-use Rattle.numbers.proofs.Refusing.{drawNumber, number_passed, rule-refused}
-use Rattle.numbers.specs.Answering.{wideRead, wideRule, number_of, answerBy, answer_of}
+use Rattle.distr.proofs.Skipping.{reports_nothing}
+use Rattle.numbers.proofs.Refusing.{draw_number, number_passed, rule-refused}
+use Rattle.numbers.specs.Answering.{wide_read, wide_rule, number_of, answer_by, answer_of}
 use Rattle.numbers.proofs.WideNumbers.{by, draw-low, number_by, answer-enough}
 
 -- words below 2^32 make 64-bit words, on which two values may agree alone
@@ -34,13 +34,13 @@ map-wides f g h (suc n) ws b =
     (map-wides f g h n (drop 2 ws) (λ i. rw (get_or-drop 2 ws i 0) (b (2 + i))))
 
 -- what is read where the words are there
-pub read-there : {A : Type 0} (value : ℕ → A) (n : ℕ) (ws : List ℕ) → 2 * n ≤ length ws → wideRead value n ws ≡ got (map value (wides n ws)) (drop (2 * n) ws)
-unfolding mapRead
-read-there value n ws h = rw (many-wide n ws, le-leb (2 * n) (length ws) h)
+pub read_there : {A : Type 0} (value : ℕ → A) (n : ℕ) (ws : List ℕ) → 2 * n ≤ length ws → wide_read value n ws ≡ got (map value (wides n ws)) (drop (2 * n) ws)
+unfolding map_read
+read_there value n ws h = rw (many-wide n ws, le-leb (2 * n) (length ws) h)
 
-read-lacking : {A : Type 0} (value : ℕ → A) (n : ℕ) (ws : List ℕ) → length ws < 2 * n → wideRead value n ws ≡ short
-unfolding mapRead
-read-lacking value n ws h = rw (many-wide n ws, lt-leb (2 * n) (length ws) h)
+read_lacking : {A : Type 0} (value : ℕ → A) (n : ℕ) (ws : List ℕ) → length ws < 2 * n → wide_read value n ws ≡ short
+unfolding map_read
+read_lacking value n ws h = rw (many-wide n ws, lt-leb (2 * n) (length ws) h)
 
 -- coefficients are written one by one, by f: by a word each where the draw reads, else one value throughout; the draw's own number is
 -- none that clears the output
@@ -55,26 +55,26 @@ module _ {A : Type 0} (write : List ℤ → List A) (f : ℤ → A) (each : (cs 
   -- the draw whose number is k
   abbrev answered : Bool → ℕ → Outcome A
   answered reads k =
-      outcome (answerBy reads place n k)
+      outcome (answer_by reads place n k)
       (cond (eqb k 0) (cond reads (map (λ w. f (value w)) (wides n ws)) (replicate n (f v))) (cond (eqb k 23) (replicate n (f (pos 0))) out))
 
   throughout : (x : ℤ) → write (replicate n x) ≡ replicate n (f x)
   throughout x = each (replicate n x) ∙ map-replicate f n x
 
-  draw-by : (reads : Bool) → ruleDraw write own (wideRule reads v value n) words place out ≡ answered reads (number_of own reads (length words) place n)
-  unfolding first_of mapRead
+  draw-by : (reads : Bool) → rule_draw write own (wide_rule reads v value n) words place out ≡ answered reads (number_of own reads (length words) place n)
+  unfolding first_of map_read
   draw-by reads =
-      go reads (drawNumber (length words) place n own) (reads && ltb (length words - place) (2 * n)) refl refl
+      go reads (draw_number (length words) place n own) (reads && ltb (length words - place) (2 * n)) refl refl
       ∙ ap (answered reads) (number_by own reads (length words) place n _ _ refl refl)
     where
-      go : (r : Bool) (k : ℕ) (lacking : Bool) → k ≡ drawNumber (length words) place n own → (r && ltb (length words - place) (2 * n)) ≡ lacking
-          → ruleDraw write own (wideRule r v value n) words place out ≡ answered r (by k lacking)
+      go : (r : Bool) (k : ℕ) (lacking : Bool) → k ≡ draw_number (length words) place n own → (r && ltb (length words - place) (2 * n)) ≡ lacking
+          → rule_draw write own (wide_rule r v value n) words place out ≡ answered r (by k lacking)
       go r (suc k) lacking e h =
           rw (
             ne_eqb (suc k) 0 (λ q. omega arith),
             ne_eqb (suc k) 23 (λ q. omega (arith, draw-low (length words) place n own low)),
           )
-          (sym (rule-refused write own words place out e (wideRule r v value n) (λ q. omega arith)))
+          (sym (rule-refused write own words place out e (wide_rule r v value n) (λ q. omega arith)))
       go false zero true e h = absurd (true≢false (sym h))
       go false zero false e h =
           let good = number_passed (length words) place n own e refl in
@@ -83,44 +83,44 @@ module _ {A : Type 0} (write : List ℤ → List A) (f : ℤ → A) (each : (cs 
       go true zero true e h =
           let good = number_passed (length words) place n own e refl in
           let lacks : length words - place < 2 * n = ltb-true (length words - place) (2 * n) h in
-          rule-short write own (wideWords n value) words place out good.0 good.1 good.2
-          (read-lacking value n ws (simp length-drop lacks))
+          rule-short write own (wide_words n value) words place out good.0 good.1 good.2
+          (read_lacking value n ws (simp length-drop lacks))
           ∙ rw (throughout (pos 0))
       go true zero false e h =
           let good = number_passed (length words) place n own e refl in
           let there : 2 * n ≤ length words - place = ltb-false (length words - place) (2 * n) h in
           let left : length words - length (drop (2 * n) ws) ≡ place + 2 * n = simp length-drop (omega (arith, good.0)) in
-          rule-got write own (wideWords n value) words place out good.0 good.1 good.2 _ _ (read-there value n ws (simp length-drop there))
+          rule-got write own (wide_words n value) words place out good.0 good.1 good.2 _ _ (read_there value n ws (simp length-drop there))
           ∙ rw (left, each (map value (wides n ws)), map-map f value (wides n ws))
 
   -- a rule of this kind, the answer a, and what the output holds then
-  module _ (rule : Rule) (reads : Bool) (kind : rule ≡ wideRule reads v value n) (a : Answer) (e : a ≡ answer_of own reads (length words) place n)
+  module _ (rule : Rule) (reads : Bool) (kind : rule ≡ wide_rule reads v value n) (a : Answer) (e : a ≡ answer_of own reads (length words) place n)
       (final : List A) where
-    by_answer : final ≡ (answered reads a.number).output → outcome a final ≡ ruleDraw write own rule words place out
+    by_answer : final ≡ (answered reads a.number).output → outcome a final ≡ rule_draw write own rule words place out
     by_answer q = rw (kind, e, q, e) (sym (draw-by reads))
 
-    pub draw-cleared : a.number ≡ 23 → final ≡ replicate n (f (pos 0)) → outcome a final ≡ ruleDraw write own rule words place out
-    draw-cleared z q = by_answer (rw z q)
+    pub draw_cleared : a.number ≡ 23 → final ≡ replicate n (f (pos 0)) → outcome a final ≡ rule_draw write own rule words place out
+    draw_cleared z q = by_answer (rw z q)
 
-    pub draw-refused : (a.number ≡ 23 → ⊥) → (a.number ≡ 0 → ⊥) → final ≡ out → outcome a final ≡ ruleDraw write own rule words place out
+    pub draw-refused : (a.number ≡ 23 → ⊥) → (a.number ≡ 0 → ⊥) → final ≡ out → outcome a final ≡ rule_draw write own rule words place out
     draw-refused y z q = by_answer (rw (ne_eqb a.number 0 z, ne_eqb a.number 23 y) q)
 
-    pub draw-constant : a.number ≡ 0 → reads ≡ false → final ≡ replicate n (f v) → outcome a final ≡ ruleDraw write own rule words place out
+    pub draw-constant : a.number ≡ 0 → reads ≡ false → final ≡ replicate n (f v) → outcome a final ≡ rule_draw write own rule words place out
     draw-constant z r q = by_answer (rw (z, r) q)
 
     -- by a loop that picks f of the value by each word
-    pub draw-read : a.number ≡ 0 → reads ≡ true → ((i : ℕ) → get_or words i 0 < 2 ^ 32)
+    pub draw_read : a.number ≡ 0 → reads ≡ true → ((i : ℕ) → get_or words i 0 < 2 ^ 32)
         → (pick : ℕ → A) → ((w : ℕ) → w < 2 ^ 64 → pick w ≡ f (value w))
-        → wideRead pick n ws ≡ got final (drop (place + 2 * n) words) → outcome a final ≡ ruleDraw write own rule words place out
-    draw-read z r bounded pick same p =
+        → wide_read pick n ws ≡ got final (drop (place + 2 * n) words) → outcome a final ≡ rule_draw write own rule words place out
+    draw_read z r bounded pick same p =
         let enough : place + 2 * n ≤ length words = answer-enough own (length words) place n (rw r at e) z in
         let there : got (map pick (wides n ws)) (drop (2 * n) ws) ≡ got final (drop (place + 2 * n) words) =
-        sym (read-there pick n ws (simp length-drop (omega arith))) ∙ p in
+        sym (read_there pick n ws (simp length-drop (omega arith))) ∙ p in
         let all : final ≡ map pick (wides n ws) = cc in
         by_answer
         (rw (z, r) (all ∙ map-wides pick (λ w. f (value w)) same n ws (λ i. rw (get_or-drop place words i 0) (bounded (place + i)))))
 
 -- the answer of a draw that skips nothing says so, whatever its number
-pub answer-reports : (own : ℕ) (reads : Bool) (count place n : ℕ) {s : Skipped} {a : Answer} → a ≡ answer_of own reads count place n → s ≡ nothing
+pub answer_reports : (own : ℕ) (reads : Bool) (count place n : ℕ) {s : Skipped} {a : Answer} → a ≡ answer_of own reads count place n → s ≡ nothing
     → sums a ≡ reported a.number s
-answer-reports own reads count place n {s} {a} e none = rw none (reports-nothing a (rw e))
+answer_reports own reads count place n {s} {a} e none = rw none (reports_nothing a (rw e))

@@ -15,12 +15,12 @@ abbrev pub one : Element
 one = pos 1
 
 -- A coefficient, and a list of them, as the output holds them.
-abbrev pub heldOne : Encoding → ℤ → Element
-heldOne encoding c = c
+abbrev pub held_one : Encoding → ℤ → Element
+held_one encoding c = c
 
 abbrev pub held : Encoding → List ℤ → List Element
 held encoding cs = cs
 
 -- A magnitude with its sign, where an i64 holds both signs of it.
-abbrev pub heldSign : Encoding → Bool → ℕ → Element
-heldSign encoding positive m = cond (ltb m (2 ^ 63)) (with_sign positive m) zero
+abbrev pub held_sign : Encoding → Bool → ℕ → Element
+held_sign encoding positive m = cond (ltb m (2 ^ 63)) (with_sign positive m) zero

@@ -1,7 +1,7 @@
 // Inner crate of primus_distr: signed output. What depends on the output's type stands here and nowhere else: the type, one value over a whole
 // output, and how a coefficient is held. The loops that store are written over `Out`, one text for every type.
 ghost use Rattle.std.specs.Prelude.{◌≡◌, length, replicate, pos, negsuc, ◌-ℤ◌};
-ghost use Rattle.output_i64.specs.Out.{zero, heldOne, heldSign};
+ghost use Rattle.output_i64.specs.Out.{zero, held_one, held_sign};
 
 // The type of an output's elements.
 pub type Out = i64;
@@ -30,14 +30,14 @@ pub fn clear(output: &mut [Out])
 
 // What stands for -1.
 pub fn minus_one(encoding: Encoding) -> Out
-    ensures { result ≡ heldOne encoding (negsuc 0) }
+    ensures { result ≡ held_one encoding (negsuc 0) }
 {
     -1
 }
 
 // A magnitude with its sign. One above 2^63 - 1, which no distribution has, gives 0.
 pub fn coefficient(encoding: Encoding, positive: bool, magnitude: u64) -> Out
-    ensures { result ≡ heldSign encoding positive magnitude }
+    ensures { result ≡ held_sign encoding positive magnitude }
 {
     if 0x7fff_ffff_ffff_ffff < magnitude {
         return 0;
@@ -48,7 +48,7 @@ pub fn coefficient(encoding: Encoding, positive: bool, magnitude: u64) -> Out
 
 // The difference of two counts.
 pub fn difference(encoding: Encoding, first: u32, second: u32) -> Out
-    ensures { result ≡ heldOne encoding (pos first -ℤ pos second) }
+    ensures { result ≡ held_one encoding (pos first -ℤ pos second) }
 {
     first as i64 - second as i64
 }

@@ -1,7 +1,7 @@
 // Inner crate of primus_distr: residues. What depends on the output's type stands here and nowhere else: the type, one value over a whole
 // output, and how a coefficient is held. The loops that store are written over `Out`, one text for every type.
 ghost use Rattle.std.specs.Prelude.{◌≡◌, length, replicate, pos, negsuc, ◌-ℤ◌};
-ghost use Rattle.output_u64.specs.Out.{zero, heldOne, heldSign};
+ghost use Rattle.output_u64.specs.Out.{zero, held_one, held_sign};
 
 // The type of an output's elements.
 pub type Out = u64;
@@ -32,7 +32,7 @@ pub fn clear(output: &mut [Out])
 
 // What stands for -1.
 pub fn minus_one(encoding: Encoding) -> Out
-    ensures { result ≡ heldOne encoding (negsuc 0) }
+    ensures { result ≡ held_one encoding (negsuc 0) }
 {
     encoding.minus_one
 }
@@ -40,7 +40,7 @@ pub fn minus_one(encoding: Encoding) -> Out
 // A magnitude with its sign: -m is modulus - m, and zero stays 0. Of a magnitude above the modulus less 1, which the numbers refuse by 9, the
 // positive one is handed back as it is, and the negative one gives 0.
 pub fn coefficient(encoding: Encoding, positive: bool, magnitude: u64) -> Out
-    ensures { result ≡ heldSign encoding positive magnitude }
+    ensures { result ≡ held_sign encoding positive magnitude }
 {
     let minus_one = encoding.minus_one;
     if positive | (magnitude == 0) {
@@ -54,7 +54,7 @@ pub fn coefficient(encoding: Encoding, positive: bool, magnitude: u64) -> Out
 
 // The difference of two counts. One below what the modulus has, which the numbers refuse by 9, gives 0.
 pub fn difference(encoding: Encoding, first: u32, second: u32) -> Out
-    ensures { result ≡ heldOne encoding (pos first -ℤ pos second) }
+    ensures { result ≡ held_one encoding (pos first -ℤ pos second) }
 {
     let minus_one = encoding.minus_one;
     let upper = first as u64;

@@ -7,15 +7,15 @@ use native.Mathlib.Omega.{arith}
 use borrow.Author.Tests.{le-leb, lt-leb}
 use lib.ListN.{length, take, drop, replicate, length-drop}
 use lib.IntN.{ℤ, pos}
-use Rattle.distr.specs.Words.{Read, got, short, mapRead}
+use Rattle.distr.specs.Words.{Read, got, short, map_read}
 use Rattle.distr.specs.Rule.{Rule, read_by}
 use Rattle.distr.specs.Packed.{digits, split, packed}
-use Rattle.distr.specs.UniformTernary.{bytes, rejectedBytes, uniformTernary, tritValue}
-use Rattle.distr.specs.Draw.{ruleDraw}
+use Rattle.distr.specs.UniformTernary.{bytes, rejected_bytes, uniform_ternary, trit_value}
+use Rattle.distr.specs.Draw.{rule_draw}
 use Rattle.distr.proofs.Reading.{many-word}
-use Rattle.distr.proofs.Writing.{map-append, map-map, map-replicate, map-take}
+use Rattle.distr.proofs.Writing.{map_append, map-map, map-replicate, map-take}
 use Rattle.distr.proofs.Drawing.{rule-got, rule-short}
-use Rattle.numbers.proofs.Refusing.{drawNumber, number_passed, rule-refused}
+use Rattle.numbers.proofs.Refusing.{draw_number, number_passed, rule-refused}
 use Rattle.packed.specs.Tabled.{DrawsByTable}
 use Rattle.packed.proofs.Packing.{enough}
 
@@ -30,9 +30,9 @@ module _ {A : Type 0} (base : ℕ) (g h : ℕ → A) (positive : 0 < base) (same
   unfolding split
   map-split count [] = refl
   map-split count (x ∷ xs) =
-      map-append g (digits base count x) (split base count xs)
+      map_append g (digits base count x) (split base count xs)
       ∙ ap₂ (λ (a b : List A). a ++ b) (map-digits count x) (map-split count xs)
-      ∙ sym (map-append h (digits base count x) (split base count xs))
+      ∙ sym (map_append h (digits base count x) (split base count xs))
 
   map-taken : (n count : ℕ) (xs : List ℕ) → map g (take n (split base count xs)) ≡ map h (take n (split base count xs))
   map-taken n count xs =
@@ -40,10 +40,10 @@ module _ {A : Type 0} (base : ℕ) (g h : ℕ → A) (positive : 0 < base) (same
 
 -- A draw by one rule, where no number refuses it.
 module _ {A : Type 0} (write : List ℤ → List A) (f : ℤ → A) (writes : (cs : List ℤ) → write cs ≡ map f cs)
-    (rule : Rule) (words : List ℕ) (place : ℕ) (out : List A) {k : ℕ} (number : k ≡ drawNumber (length words) place (length out) 0) (good : k ≡ 0) where
+    (rule : Rule) (words : List ℕ) (place : ℕ) (out : List A) {k : ℕ} (number : k ≡ draw_number (length words) place (length out) 0) (good : k ≡ 0) where
   -- 23: the place stays, and the output is zeros
   lacking : {out' : List A} → read_by rule (drop place words) ≡ short → out' ≡ replicate (length out) (f (pos 0))
-      → record { number = 23; place = place; index = 0; output = out' } ≡ ruleDraw write 0 rule words place out
+      → record { number = 23; place = place; index = 0; output = out' } ≡ rule_draw write 0 rule words place out
   lacking e o =
       let passed = number_passed (length words) place (length out) 0 number good in
       ap (λ (l : List A). record { number = 23; place = place; index = 0; output = l }) (o ∙ sym (map-replicate f (length out) (pos 0)) ∙ sym (writes _))
@@ -51,7 +51,7 @@ module _ {A : Type 0} (write : List ℤ → List A) (f : ℤ → A) (writes : (c
 
   -- 0: the place after the words read, and the coefficients as the output holds them
   filled : (cs : List ℤ) (rest : List ℕ) {out' : List A} {at : ℕ} → read_by rule (drop place words) ≡ got cs rest
-      → at ≡ length words - length rest → out' ≡ map f cs → record { number = 0; place = at; index = 0; output = out' } ≡ ruleDraw write 0 rule words place out
+      → at ≡ length words - length rest → out' ≡ map f cs → record { number = 0; place = at; index = 0; output = out' } ≡ rule_draw write 0 rule words place out
   filled cs rest e p o =
       let passed = number_passed (length words) place (length out) 0 number good in
       ap₂ (λ (j : ℕ) (l : List A). record { number = 0; place = j; index = 0; output = l }) p (o ∙ sym (writes cs))
@@ -59,16 +59,16 @@ module _ {A : Type 0} (write : List ℤ → List A) (f : ℤ → A) (writes : (c
 
 -- Draws packed into m words: its number decides, and then the test of the words' number, whatever rule the entries hold the values of.
 module _ {A : Type 0} (z : A) (entry : ℕ → A) (base each m : ℕ) (words : List ℕ) (place : ℕ) (out : List A)
-    {k : ℕ} (number : k ≡ drawNumber (length words) place (length out) 0) where
+    {k : ℕ} (number : k ≡ draw_number (length words) place (length out) 0) where
   pub table-refused : (k ≡ 0 → ⊥) → DrawsByTable z entry base each m words place out (record { number = k; place = place; index = 0; output = out })
   table-refused some = record {
     draws = λ write f value writes zeros agree. rule-refused write 0 words place out number (packed base each m (length out) value) some;
   }
 
-  pub table-lacking : {out' : List A} → k ≡ 0 → length words - place < m → out' ≡ replicate (length out) z
+  pub table_lacking : {out' : List A} → k ≡ 0 → length words - place < m → out' ≡ replicate (length out) z
       → DrawsByTable z entry base each m words place out (record { number = 23; place = place; index = 0; output = out' })
-  unfolding mapRead
-  table-lacking good l o = record {
+  unfolding map_read
+  table_lacking good l o = record {
     draws = λ write f value writes zeros agree.
         lacking write f writes (packed base each m (length out) value) words place out number good
         (rw (many-word m (drop place words), lt-leb m (length (drop place words)) (rw (length-drop place words) (omega arith))))
@@ -78,7 +78,7 @@ module _ {A : Type 0} (z : A) (entry : ℕ → A) (base each m : ℕ) (words : L
   pub table_filled : {out' : List A} → k ≡ 0 → 0 < base → m ≤ length words - place → length out ≤ m * each
       → out' ≡ map entry (take (length out) (split base each (drop place words)))
       → DrawsByTable z entry base each m words place out (record { number = 0; place = place + m; index = 0; output = out' })
-  unfolding mapRead
+  unfolding map_read
   table_filled good b l fits o =
       let passed = number_passed (length words) place (length out) 0 number good in
       let n : ℕ = length out in
@@ -97,62 +97,62 @@ module _ {A : Type 0} (z : A) (entry : ℕ → A) (base each m : ℕ) (words : L
       }
 
 -- No trit is wanted: no word is read, and no byte is looked at.
-none_read : (ws : List ℕ) → mapRead (λ ds. map tritValue (take 0 (split 3 5 ds))) (bytes ws 0) ≡ got [] ws
-unfolding mapRead bytes split
+none_read : (ws : List ℕ) → map_read (λ ds. map trit_value (take 0 (split 3 5 ds))) (bytes ws 0) ≡ got [] ws
+unfolding map_read bytes split
 none_read [] = refl
 none_read (w ∷ ws) = refl
 
-pub none-rejected : {n : ℕ} (ws : List ℕ) → n ≡ 0 → 0 ≡ min (rejectedBytes ws ((n + 4) / 5)) (2 ^ 64 - 1)
-unfolding rejectedBytes
-none-rejected [] e = refl
-none-rejected (w ∷ ws) e = rw e
+pub none_rejected : {n : ℕ} (ws : List ℕ) → n ≡ 0 → 0 ≡ min (rejected_bytes ws ((n + 4) / 5)) (2 ^ 64 - 1)
+unfolding rejected_bytes
+none_rejected [] e = refl
+none_rejected (w ∷ ws) e = rw e
 
-pub trits-none : {A : Type 0} (write : List ℤ → List A) (f : ℤ → A) → ((cs : List ℤ) → write cs ≡ map f cs)
-    → (words : List ℕ) (place : ℕ) (out : List A) {k : ℕ} → k ≡ drawNumber (length words) place (length out) 0 → k ≡ 0 → length out ≡ 0
-    → record { number = 0; place = place; index = 0; output = out } ≡ ruleDraw write 0 (uniformTernary (length out)) words place out
-trits-none write f writes words place [] number good none =
+pub trits_none : {A : Type 0} (write : List ℤ → List A) (f : ℤ → A) → ((cs : List ℤ) → write cs ≡ map f cs)
+    → (words : List ℕ) (place : ℕ) (out : List A) {k : ℕ} → k ≡ draw_number (length words) place (length out) 0 → k ≡ 0 → length out ≡ 0
+    → record { number = 0; place = place; index = 0; output = out } ≡ rule_draw write 0 (uniform_ternary (length out)) words place out
+trits_none write f writes words place [] number good none =
     let passed = number_passed (length words) place 0 0 number good in
-    filled write f writes (uniformTernary 0) words place [] number good [] (drop place words) (none_read (drop place words))
+    filled write f writes (uniform_ternary 0) words place [] number good [] (drop place words) (none_read (drop place words))
     (rw (length-drop place words) (omega arith)) refl
-trits-none write f writes words place (x ∷ out) number good none = absurd (omega arith)
+trits_none write f writes words place (x ∷ out) number good none = absurd (omega arith)
 
 -- Trits out of bytes: where the reading of bytes stopped decides.
 module _ {A : Type 0} (write : List ℤ → List A) (f : ℤ → A) (writes : (cs : List ℤ) → write cs ≡ map f cs)
-    (words : List ℕ) (place : ℕ) (out : List A) {k : ℕ} (number : k ≡ drawNumber (length words) place (length out) 0) (good : k ≡ 0)
+    (words : List ℕ) (place : ℕ) (out : List A) {k : ℕ} (number : k ≡ draw_number (length words) place (length out) 0) (good : k ≡ 0)
     (entry : ℕ → A) where
   -- the digits of the bytes read, looked up in the table
-  abbrev tritsRead : Read (List ℕ) → Read (List A)
-  tritsRead r = mapRead (λ ds. map entry (take (length out) (split 3 5 ds))) r
+  abbrev trits_read : Read (List ℕ) → Read (List A)
+  trits_read r = map_read (λ ds. map entry (take (length out) (split 3 5 ds))) r
 
-  abbrev bytesRead : Read (List ℕ)
-  bytesRead = bytes (drop place words) ((length out + 4) / 5)
+  abbrev bytes_read : Read (List ℕ)
+  bytes_read = bytes (drop place words) ((length out + 4) / 5)
 
-  pub trits-lacking : {out' : List A} → short ≡ tritsRead bytesRead → out' ≡ replicate (length out) (f (pos 0))
-      → record { number = 23; place = place; index = 0; output = out' } ≡ ruleDraw write 0 (uniformTernary (length out)) words place out
-  unfolding mapRead
-  trits-lacking e o = lacking write f writes (uniformTernary (length out)) words place out number good (go bytesRead e) o
+  pub trits_lacking : {out' : List A} → short ≡ trits_read bytes_read → out' ≡ replicate (length out) (f (pos 0))
+      → record { number = 23; place = place; index = 0; output = out' } ≡ rule_draw write 0 (uniform_ternary (length out)) words place out
+  unfolding map_read
+  trits_lacking e o = lacking write f writes (uniform_ternary (length out)) words place out number good (go bytes_read e) o
     where
-      go : (r : Read (List ℕ)) → short ≡ tritsRead r → mapRead (λ ds. map tritValue (take (length out) (split 3 5 ds))) r ≡ short
+      go : (r : Read (List ℕ)) → short ≡ trits_read r → map_read (λ ds. map trit_value (take (length out) (split 3 5 ds))) r ≡ short
       go (got ds rest) p = let never : ◌≡◌ {A = ℕ} 0 1 = cc in absurd (omega arith)
       go short p = refl
 
-  pub trits-filled : {out' : List A} {at : ℕ} → ((d : ℕ) → d < 3 → entry d ≡ f (tritValue d)) → at ≤ length words
-      → got out' (drop at words) ≡ tritsRead bytesRead
-      → record { number = 0; place = at; index = 0; output = out' } ≡ ruleDraw write 0 (uniformTernary (length out)) words place out
-  unfolding mapRead
-  trits-filled {out'} {at} agree h e = go bytesRead refl e
+  pub trits_filled : {out' : List A} {at : ℕ} → ((d : ℕ) → d < 3 → entry d ≡ f (trit_value d)) → at ≤ length words
+      → got out' (drop at words) ≡ trits_read bytes_read
+      → record { number = 0; place = at; index = 0; output = out' } ≡ rule_draw write 0 (uniform_ternary (length out)) words place out
+  unfolding map_read
+  trits_filled {out'} {at} agree h e = go bytes_read refl e
     where
-      go : (r : Read (List ℕ)) → bytesRead ≡ r → got out' (drop at words) ≡ tritsRead r
-          → record { number = 0; place = at; index = 0; output = out' } ≡ ruleDraw write 0 (uniformTernary (length out)) words place out
+      go : (r : Read (List ℕ)) → bytes_read ≡ r → got out' (drop at words) ≡ trits_read r
+          → record { number = 0; place = at; index = 0; output = out' } ≡ rule_draw write 0 (uniform_ternary (length out)) words place out
       go (got ds rest) b p =
           let n : ℕ = length out in
-          let held : ℕ → A = λ d. f (tritValue d) in
+          let held : ℕ → A = λ d. f (trit_value d) in
           let stopped : rest ≡ drop at words = cc in
           let looked-up : out' ≡ map entry (take n (split 3 5 ds)) = cc in
-          filled write f writes (uniformTernary n) words place out number good (map tritValue (take n (split 3 5 ds))) rest
-          (ap (mapRead (λ ds'. map tritValue (take n (split 3 5 ds')))) b)
+          filled write f writes (uniform_ternary n) words place out number good (map trit_value (take n (split 3 5 ds))) rest
+          (ap (map_read (λ ds'. map trit_value (take n (split 3 5 ds')))) b)
           (rw (stopped, length-drop at words) (omega arith))
-          (looked-up ∙ map-taken 3 entry held (omega arith) agree n 5 ds ∙ sym (map-map f tritValue (take n (split 3 5 ds))))
+          (looked-up ∙ map-taken 3 entry held (omega arith) agree n 5 ds ∙ sym (map-map f trit_value (take n (split 3 5 ds))))
       go short b p = let never : ◌≡◌ {A = ℕ} 0 1 = cc in absurd (omega arith)
 
 -- A claim about the digits below two, three and four, one by one.
@@ -165,6 +165,6 @@ pub below-three : (P : ℕ → Type 0) → P 0 → P 1 → P 2 → (d : ℕ) →
 below-three P p₀ p₁ p₂ zero h = p₀
 below-three P p₀ p₁ p₂ (suc d) h = below_two (λ k. P (suc k)) p₁ p₂ d (omega arith)
 
-pub below-four : (P : ℕ → Type 0) → P 0 → P 1 → P 2 → P 3 → (d : ℕ) → d < 4 → P d
-below-four P p₀ p₁ p₂ p₃ zero h = p₀
-below-four P p₀ p₁ p₂ p₃ (suc d) h = below-three (λ k. P (suc k)) p₁ p₂ p₃ d (omega arith)
+pub below_four : (P : ℕ → Type 0) → P 0 → P 1 → P 2 → P 3 → (d : ℕ) → d < 4 → P d
+below_four P p₀ p₁ p₂ p₃ zero h = p₀
+below_four P p₀ p₁ p₂ p₃ (suc d) h = below-three (λ k. P (suc k)) p₁ p₂ p₃ d (omega arith)

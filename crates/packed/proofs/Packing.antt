@@ -11,8 +11,8 @@ use lib.Seq.{paste, length-paste, take-append-le, take-take}
 use lib.Seq.{drop-cons, get_or-drop, length-take-le, drop-length}
 use Rattle.distr.specs.Packed.{digits, split}
 use Rattle.distr.proofs.Digits.{length_digits, length-split, drop-split, take_split}
-use Rattle.distr.proofs.Writing.{written, written-paste, map-append, map-take, map-drop}
-use Rattle.packed.specs.Pairs.{digitValue}
+use Rattle.distr.proofs.Writing.{written, written-paste, map_append, map-take, map-drop}
+use Rattle.packed.specs.Pairs.{digit_value}
 use Rattle.packed.specs.Cutting.{Cut}
 
 -- words past those that n digits need do not matter
@@ -32,7 +32,7 @@ module _ {A : Type 0} (base each : ℕ) (value : ℕ → A) (ws : List ℕ) wher
       let vs : List A = map value (digits base each w) in
       let rest : List ℕ = split base each (drop (suc i) ws) in
       sym (take-append-le count vs (map value rest) (rw (length-map (digits base each w) value, length_digits base each w) k))
-      ∙ ap (take count) (sym (map-append value (digits base each w) rest)
+      ∙ ap (take count) (sym (map_append value (digits base each w) rest)
       ∙ ap (λ (l : List ℕ). map value (split base each l)) (sym (drop-cons ws i 0 h))
       ∙ ap (map value) (sym (drop-split base each i ws))
       ∙ map-drop value (i * each) (split base each ws))
@@ -52,7 +52,7 @@ end_fits words out place each h k l = record { fits = omega (arith, div-le_self 
 
 module _ {A : Type 0} (base each : ℕ) (z : A) (pairs : List A) (words : List ℕ) (place : ℕ) (out₀ : List A) where
   abbrev values : List A
-  values = map (digitValue z pairs) (split base each (drop place words))
+  values = map (digit_value z pairs) (split base each (drop place words))
 
   -- the values of the words from a place up to the next one are written, as the table of pairs has them
   pub record Filled (at next : ℕ) (out : List A) : Type 0 where
@@ -64,10 +64,10 @@ module _ {A : Type 0} (base each : ℕ) (z : A) (pairs : List A) (words : List �
     pub holds : out ≡ written values at out₀
 
   abbrev stored : ℕ → List A
-  stored next = map (digitValue z pairs) (digits base each (get_or words next 0))
+  stored next = map (digit_value z pairs) (digits base each (get_or words next 0))
 
   length-stored : (next : ℕ) → length (stored next) ≡ each
-  length-stored next = length-map (digits base each (get_or words next 0)) (digitValue z pairs) ∙ length_digits base each (get_or words next 0)
+  length-stored next = length-map (digits base each (get_or words next 0)) (digit_value z pairs) ∙ length_digits base each (get_or words next 0)
 
   pub filled_none : Cut z pairs base each → Filled 0 place out₀
   filled_none c =
@@ -91,14 +91,14 @@ module _ {A : Type 0} (base each : ℕ) (z : A) (pairs : List A) (words : List �
 
   -- the words that have room whole: before their end there is room for one more, and at it for no other
   module _ {at next : ℕ} {out : List A} (s : Filled at next out) where
-    pub room-more : next < place + length out₀ / each → at + each ≤ length out₀
-    room-more h =
+    pub room_more : next < place + length out₀ / each → at + each ≤ length out₀
+    room_more h =
         let p = s.after in
         let turn : suc (next - place) ≤ length out₀ / each = omega arith in
         omega (arith, s.whole, suc-mul (next - place) each, mul-le-mul_right each turn, div-mul-le_self (length out₀) each)
 
-    pub room-less : place + length out₀ / each ≤ next → length out₀ ≤ at + each
-    room-less h =
+    pub room_less : place + length out₀ / each ≤ next → length out₀ ≤ at + each
+    room_less h =
         let p = s.after in
         let all : length out₀ / each ≤ next - place = omega arith in
         omega (arith, s.whole, mul-le-mul_right each all, lt-div-mul-add {a = length out₀} s.cut.some)
@@ -108,7 +108,7 @@ module _ {A : Type 0} (base each : ℕ) (z : A) (pairs : List A) (words : List �
       → Filled at next out → out' ≡ paste out at (stored next) count → (length out' ≡ length out₀) × (out' ≡ written values (at + count) out₀)
   filled_next count {at} {next} {out} r h k s f =
       let ws : List ℕ = drop place words in
-      let value : ℕ → A = digitValue z pairs in
+      let value : ℕ → A = digit_value z pairs in
       let i : ℕ = next - place in
       let p = s.after in
       let n = s.sized in
@@ -140,22 +140,22 @@ module _ {A : Type 0} (base each : ℕ) (z : A) (pairs : List A) (words : List �
         holds = more.1;
       }
 
-  all-written : {out : List A} → out ≡ written values (length out₀) out₀ → out ≡ map (digitValue z pairs) (take (length out₀) (split base each (drop place words)))
+  all-written : {out : List A} → out ≡ written values (length out₀) out₀ → out ≡ map (digit_value z pairs) (take (length out₀) (split base each (drop place words)))
   all-written e =
       e
       ∙ ap (λ (l : List A). take (length out₀) values ++ l) (drop-length out₀)
       ∙ append-nil (take (length out₀) values)
-      ∙ sym (map-take (digitValue z pairs) (length out₀) (split base each (drop place words)))
+      ∙ sym (map-take (digit_value z pairs) (length out₀) (split base each (drop place words)))
 
-  pub filled-all : {at next : ℕ} {out : List A} → length out₀ ≤ at → Filled at next out
-      → out ≡ map (digitValue z pairs) (take (length out₀) (split base each (drop place words)))
-  filled-all h s = all-written (s.holds ∙ ap (λ (j : ℕ). written values j out₀) (le_antisymm s.fits h))
+  pub filled_all : {at next : ℕ} {out : List A} → length out₀ ≤ at → Filled at next out
+      → out ≡ map (digit_value z pairs) (take (length out₀) (split base each (drop place words)))
+  filled_all h s = all-written (s.holds ∙ ap (λ (j : ℕ). written values j out₀) (le_antisymm s.fits h))
 
   -- the last word's digits, stored aside, and as many of them as there is room for
-  pub filled-last : (room : List A) {at next : ℕ} {out out' part : List A} → at < length out₀ → length out₀ ≤ at + each → next < length words
+  pub filled_last : (room : List A) {at next : ℕ} {out out' part : List A} → at < length out₀ → length out₀ ≤ at + each → next < length words
       → Filled at next out → part ≡ paste room 0 (stored next) each → out' ≡ paste out at part (length out - at)
-      → out' ≡ map (digitValue z pairs) (take (length out₀) (split base each (drop place words)))
-  filled-last room {at} {next} {out} a b h s e f =
+      → out' ≡ map (digit_value z pairs) (take (length out₀) (split base each (drop place words)))
+  filled_last room {at} {next} {out} a b h s e f =
       let count : ℕ = length out₀ - at in
       let end : at + count ≡ length out₀ = omega arith in
       let all : each ≤ length (stored next) = le_of_eq (sym (length-stored next)) in

@@ -11,7 +11,7 @@ use borrow.Author.Tests.{ltb-true, ltb-false}
 use lib.Dec.{ltb}
 use lib.ListN.{length, get_or, length-append, get_or-append}
 use lib.Seq.{get_or-append-add}
-use Rattle.packed.specs.Pairs.{row_of, rows_of, pairsOf, digitValue, Paired}
+use Rattle.packed.specs.Pairs.{row_of, rows_of, pairs_of, digit_value, Paired}
 
 module _ (base : ℕ) (positive : 0 < base) (x : ℕ) where
   -- the low digit of a digit of base², and the high one
@@ -75,11 +75,11 @@ module _ {A : Type 0} (z : A) where
       let size : length here ≡ b * 2 = length-row high lows in
       let less : q < length highs * b + b = rw (suc-mul (length highs) b) at h in
       let pair = next r (omega arith) in
-      let low-at : q * 2 ≡ length here + r * 2 = omega arith in
-      let high-at : q * 2 + 1 ≡ length here + (r * 2 + 1) = omega arith in (
-        ap (λ (n : ℕ). get_or (here ++ there) n z) low-at ∙ get_or-append-add here there (r * 2) z ∙ pair.0
+      let low_at : q * 2 ≡ length here + r * 2 = omega arith in
+      let high_at : q * 2 + 1 ≡ length here + (r * 2 + 1) = omega arith in (
+        ap (λ (n : ℕ). get_or (here ++ there) n z) low_at ∙ get_or-append-add here there (r * 2) z ∙ pair.0
             ∙ ap (λ (n : ℕ). get_or lows n z) (sym (mod-eq-sub-mod l)),
-        ap (λ (n : ℕ). get_or (here ++ there) n z) high-at ∙ get_or-append-add here there (r * 2 + 1) z ∙ pair.1
+        ap (λ (n : ℕ). get_or (here ++ there) n z) high_at ∙ get_or-append-add here there (r * 2 + 1) z ∙ pair.1
             ∙ ap (λ (n : ℕ). get_or (high ∷ highs) n z) (sym (div-eq-sub-div p l ∙ add-one (r / b))),
       )
 
@@ -89,24 +89,24 @@ module _ {A : Type 0} (z : A) where
 
   module _ (values : List A) (positive : 0 < length values) where
     -- a digit alone
-    pub digit_value : (d : ℕ) → d < length values → digitValue z (pairsOf values) d ≡ get_or values d z
-    digit_value d h =
+    pub digit_value_lem : (d : ℕ) → d < length values → digit_value z (pairs_of values) d ≡ get_or values d z
+    digit_value_lem d h =
         let square : 1 * length values ≤ length values * length values = mul-le-mul_right (length values) positive in
         (rows values values d positive (omega arith)).0 ∙ ap (λ (n : ℕ). get_or values n z) (mod-eq_of_lt h)
 
     -- the table of pairs of the values
-    pub paired : Paired (length values) z (pairsOf values)
+    pub paired : Paired (length values) z (pairs_of values)
     paired = record {
       positive = positive;
       sized = length-rows values values;
-      low = λ q h. (rows values values q positive h).0 ∙ sym (digit_value (q % length values) (mod-lt q positive));
-      high = λ q h. (rows values values q positive h).1 ∙ sym (digit_value (q / length values) ((div-lt_iff_lt-mul positive).1 h));
+      low = λ q h. (rows values values q positive h).0 ∙ sym (digit_value_lem (q % length values) (mod-lt q positive));
+      high = λ q h. (rows values values q positive h).1 ∙ sym (digit_value_lem (q / length values) ((div-lt_iff_lt-mul positive).1 h));
     }
 
 -- the same of a table that is equal to it: its pairs, and its digits alone, where they are what a function gives
-module _ {A : Type 0} (z : A) (values : List A) (positive : 0 < length values) {pairs : List A} (made : pairs ≡ pairsOf values) where
+module _ {A : Type 0} (z : A) (values : List A) (positive : 0 < length values) {pairs : List A} (made : pairs ≡ pairs_of values) where
   pub made-paired : Paired (length values) z pairs
   made-paired = rw made (paired z values positive)
 
-  pub made-agrees : (g : ℕ → A) → ((d : ℕ) → d < length values → get_or values d z ≡ g d) → (d : ℕ) → d < length values → digitValue z pairs d ≡ g d
-  made-agrees g agree d h = ap (λ (ps : List A). digitValue z ps d) made ∙ digit_value z values positive d h ∙ agree d h
+  pub made_agrees : (g : ℕ → A) → ((d : ℕ) → d < length values → get_or values d z ≡ g d) → (d : ℕ) → d < length values → digit_value z pairs d ≡ g d
+  made_agrees g agree d h = ap (λ (ps : List A). digit_value z ps d) made ∙ digit_value_lem z values positive d h ∙ agree d h

@@ -10,18 +10,18 @@ use lib.Seq.{drop-cons, take-set-le, paste, paste-zero, paste-suc, length-paste}
 use Rattle.distr.specs.Packed.{digits}
 use Rattle.distr.proofs.Digits.{length_digits}
 use Rattle.packed.specs.declared.trits.Places.{Places}
-use Rattle.packed.specs.Pairs.{digitValue, Paired, pairSet}
-use Rattle.packed.specs.TritTable.{dividedPlaces}
+use Rattle.packed.specs.Pairs.{digit_value, Paired, pair_set}
+use Rattle.packed.specs.TritTable.{divided_places}
 use Rattle.packed.proofs.Pairing.{low_digit, high_digit}
 
 -- x has the digits of w but the k lowest
 abbrev pub Left : ℕ → ℕ → ℕ → ℕ → ℕ → Type 0
 Left base each w k x = drop k (digits base each w) ≡ digits base (each - k) x
 
-left-more : (base each w k x : ℕ) → k < each → Left base each w k x
+left_more : (base each w k x : ℕ) → k < each → Left base each w k x
     → (get_or (digits base each w) k 0 ≡ x % base) × (drop (suc k) (digits base each w) ≡ digits base (each - suc k) (x / base))
 unfolding digits
-left-more base each w k x h l =
+left_more base each w k x h l =
     let ds : List ℕ = digits base each w in
     let e : each - k ≡ suc (each - suc k) = omega arith in
     let split : get_or ds k 0 ∷ drop (suc k) ds ≡ x % base ∷ digits base (each - suc k) (x / base) =
@@ -34,8 +34,8 @@ module _ {A : Type 0} (base each : ℕ) (value : ℕ → A) (out₀ : List A) (a
     pub holds : out ≡ paste out₀ at (map value (digits base each w)) k
     pub left : Left base each w k x
 
-  pub stored-none : Stored 0 out₀ w
-  stored-none = record { holds = paste-zero out₀ at (map value (digits base each w)); left = rw (sub-zero each) refl }
+  pub stored_none : Stored 0 out₀ w
+  stored_none = record { holds = paste-zero out₀ at (map value (digits base each w)); left = rw (sub-zero each) refl }
 
   length-values : length (map value (digits base each w)) ≡ each
   length-values = length-map (digits base each w) value ∙ length_digits base each w
@@ -43,11 +43,11 @@ module _ {A : Type 0} (base each : ℕ) (value : ℕ → A) (out₀ : List A) (a
   pub stored_more : {k x : ℕ} {out : List A} → k < each → at + k < length out₀ → Stored k out x
       → Stored (k + 1) (set out (at + k) (value (x % base))) (x / base)
   stored_more {k} {x} {out} h l s =
-      let next = left-more base each w k x h s.left in
+      let next = left_more base each w k x h s.left in
       let values : List A = map value (digits base each w) in
-      let value-at : get_or values k (value 0) ≡ value (x % base) = get_or-map value (digits base each w) k 0 ∙ ap value next.0 in
+      let value_at : get_or values k (value 0) ≡ value (x % base) = get_or-map value (digits base each w) k 0 ∙ ap value next.0 in
       record {
-        holds = rw (s.holds, ← value-at, add-one k) (paste-suc out₀ at values k (value 0) l (rw length-values h));
+        holds = rw (s.holds, ← value_at, add-one k) (paste-suc out₀ at values k (value 0) l (rw length-values h));
         left = rw (add-one k) next.1;
       }
 
@@ -55,8 +55,8 @@ module _ {A : Type 0} (base each : ℕ) (value : ℕ → A) (out₀ : List A) (a
   stored-length {k} h l s = ap length s.holds ∙ length-paste out₀ at (map value (digits base each w)) k l (rw length-values h)
 
 -- base² is a divisor that a word holds
-pub square-fits : {base : ℕ} → base < 65536 → base * base < 2 ^ 32
-square-fits {base} h =
+pub square_fits : {base : ℕ} → base < 65536 → base * base < 2 ^ 32
+square_fits {base} h =
     let most : base ≤ 65535 = omega arith in
     omega (arith, mul-le-mul most most)
 
@@ -68,27 +68,27 @@ module _ {A : Type 0} (base each : ℕ) (z : A) (pairs : List A) (out₀ : List 
     pub even : k % 2 ≡ 0
     pub room : at + each ≤ length out₀
     pub paired : Paired base z pairs
-    pub stored : Stored base each (digitValue z pairs) out₀ at w k out x
+    pub stored : Stored base each (digit_value z pairs) out₀ at w k out x
 
-  pub pairwise-none : at + each ≤ length out₀ → Paired base z pairs → Pairwise 0 out₀ w
-  pairwise-none r p = record {
+  pub pairwise_none : at + each ≤ length out₀ → Paired base z pairs → Pairwise 0 out₀ w
+  pairwise_none r p = record {
     within = omega arith;
     even = refl;
     room = r;
     paired = p;
-    stored = stored-none base each (digitValue z pairs) out₀ at w;
+    stored = stored_none base each (digit_value z pairs) out₀ at w;
   }
 
-  pub pairwise-length : {k x : ℕ} {out : List A} → Pairwise k out x → length out ≡ length out₀
-  pairwise-length s =
+  pub pairwise_length : {k x : ℕ} {out : List A} → Pairwise k out x → length out ≡ length out₀
+  pairwise_length s =
       let r = s.room in
       let k = s.within in
-      stored-length base each (digitValue z pairs) out₀ at w k (omega arith) s.stored
+      stored-length base each (digit_value z pairs) out₀ at w k (omega arith) s.stored
 
-  pub pairwise-more : {k i x : ℕ} {out out' : List A} → i ≡ at + k → k + 2 ≤ each → Pairwise k out x → out' ≡ pairSet z pairs out i (x % (base * base) * 2)
+  pub pairwise_more : {k i x : ℕ} {out out' : List A} → i ≡ at + k → k + 2 ≤ each → Pairwise k out x → out' ≡ pair_set z pairs out i (x % (base * base) * 2)
       → Pairwise (k + 2) out' (x / (base * base))
-  pairwise-more {k} {i} {x} {out} f h s o =
-      let value : ℕ → A = digitValue z pairs in
+  pairwise_more {k} {i} {x} {out} f h s o =
+      let value : ℕ → A = digit_value z pairs in
       let q : ℕ = x % (base * base) in
       let p = s.paired in
       let b = s.paired.positive in
@@ -109,39 +109,39 @@ module _ {A : Type 0} (base each : ℕ) (z : A) (pairs : List A) (out₀ : List 
             (stored_more base each value out₀ at w (omega arith) (omega arith) (stored_more base each value out₀ at w (omega arith) (omega arith) s.stored));
       }
 
-  pub pairwise-done : {k x : ℕ} {out : List A} → each ≤ k → Pairwise k out x → out ≡ paste out₀ at (map (digitValue z pairs) (digits base each w)) each
-  pairwise-done {k} h s = rw (le_antisymm s.within h) at s.stored.holds
+  pub pairwise_done : {k x : ℕ} {out : List A} → each ≤ k → Pairwise k out x → out ≡ paste out₀ at (map (digit_value z pairs) (digits base each w)) each
+  pairwise_done {k} h s = rw (le_antisymm s.within h) at s.stored.holds
 
   -- one digit more, the last one, which is what is left
-  pub pairwise-last : {k i x : ℕ} {out : List A} → i ≡ at + k → k + 1 ≡ each → x < base → Pairwise k out x
-      → set out i (digitValue z pairs x) ≡ paste out₀ at (map (digitValue z pairs) (digits base each w)) each
-  pairwise-last {k} {i} {x} {out} f h l s =
+  pub pairwise_last : {k i x : ℕ} {out : List A} → i ≡ at + k → k + 1 ≡ each → x < base → Pairwise k out x
+      → set out i (digit_value z pairs x) ≡ paste out₀ at (map (digit_value z pairs) (digits base each w)) each
+  pairwise_last {k} {i} {x} {out} f h l s =
       let r = s.room in
-      ap₂ (λ (j d : ℕ). set out j (digitValue z pairs d)) f (sym (mod-eq_of_lt l))
-      ∙ (stored_more base each (digitValue z pairs) out₀ at w (omega arith) (omega arith) s.stored).holds
-      ∙ ap (paste out₀ at (map (digitValue z pairs) (digits base each w))) h
+      ap₂ (λ (j d : ℕ). set out j (digit_value z pairs d)) f (sym (mod-eq_of_lt l))
+      ∙ (stored_more base each (digit_value z pairs) out₀ at w (omega arith) (omega arith) s.stored).holds
+      ∙ ap (paste out₀ at (map (digit_value z pairs) (digits base each w))) h
 
 -- what stands before a pair stays
-pair-before : {A : Type 0} (z : A) (pairs out : List A) (k at i : ℕ) → k ≤ at → take k (pairSet z pairs out at i) ≡ take k out
-pair-before z pairs out k at i h = take-set-le k (set out at (get_or pairs i z)) (at + 1) _ (omega arith) ∙ take-set-le k out at _ h
+pair_before : {A : Type 0} (z : A) (pairs out : List A) (k at i : ℕ) → k ≤ at → take k (pair_set z pairs out at i) ≡ take k out
+pair_before z pairs out k at i h = take-set-le k (set out at (get_or pairs i z)) (at + 1) _ (omega arith) ∙ take-set-le k out at _ h
 
 -- Five trits of a byte, from the places where they stand in the table of pairs: two pairs, and the last.
-pub five-trits : {A : Type 0} (z : A) (pairs out₀ : List A) (at byte : ℕ) {p : Places} {out₁ out₂ : List A} → at + 5 ≤ length out₀ → Paired 3 z pairs
-    → (byte < 243 → p ≡ dividedPlaces byte)
-    → out₁ ≡ pairSet z pairs out₀ at p.first → out₂ ≡ pairSet z pairs out₁ (at + 2) p.second
+pub five_trits : {A : Type 0} (z : A) (pairs out₀ : List A) (at byte : ℕ) {p : Places} {out₁ out₂ : List A} → at + 5 ≤ length out₀ → Paired 3 z pairs
+    → (byte < 243 → p ≡ divided_places byte)
+    → out₁ ≡ pair_set z pairs out₀ at p.first → out₂ ≡ pair_set z pairs out₁ (at + 2) p.second
     → let out₃ = set out₂ (at + 4) (get_or pairs p.last z) in
-    (take at out₃ ≡ take at out₀) × (byte < 243 → out₃ ≡ paste out₀ at (map (digitValue z pairs) (digits 3 5 byte)) 5)
-five-trits z pairs out₀ at byte {p} {out₁} {out₂} r d same e f = (
+    (take at out₃ ≡ take at out₀) × (byte < 243 → out₃ ≡ paste out₀ at (map (digit_value z pairs) (digits 3 5 byte)) 5)
+five_trits z pairs out₀ at byte {p} {out₁} {out₂} r d same e f = (
   take-set-le at out₂ (at + 4) _ (omega arith)
       ∙ ap (take at) f
-      ∙ pair-before z pairs out₁ at (at + 2) p.second (omega arith)
+      ∙ pair_before z pairs out₁ at (at + 2) p.second (omega arith)
       ∙ ap (take at) e
-      ∙ pair-before z pairs out₀ at at p.first (omega arith),
+      ∙ pair_before z pairs out₀ at at p.first (omega arith),
   λ b.
       let top : byte / 81 ≡ byte / 9 / 9 = omega arith in
-      let two = pairwise-more 3 5 z pairs out₀ at byte {i = at} (omega arith) (omega arith) (pairwise-none 3 5 z pairs out₀ at byte r d) (rw (same b) at e) in
-      let four = pairwise-more 3 5 z pairs out₀ at byte refl (omega arith) two (rw (same b) at f) in
-      rw (same b, top) (pairwise-last 3 5 z pairs out₀ at byte refl refl (omega arith) four),
+      let two = pairwise_more 3 5 z pairs out₀ at byte {i = at} (omega arith) (omega arith) (pairwise_none 3 5 z pairs out₀ at byte r d) (rw (same b) at e) in
+      let four = pairwise_more 3 5 z pairs out₀ at byte refl (omega arith) two (rw (same b) at f) in
+      rw (same b, top) (pairwise_last 3 5 z pairs out₀ at byte refl refl (omega arith) four),
 )
 
 -- Copying element by element.
@@ -163,5 +163,5 @@ module _ {A : Type 0} (out₀ : List A) (at : ℕ) (part : List A) where
     holds = rw (s.holds, add-one k) (paste-suc out₀ at part k z h l);
   }
 
-  pub copied-length : {k : ℕ} {out : List A} → Copied k out → length out ≡ length out₀
-  copied-length {k} s = ap length s.holds ∙ length-paste out₀ at part k s.room s.there
+  pub copied_length : {k : ℕ} {out : List A} → Copied k out → length out ≡ length out₀
+  copied_length {k} s = ap length s.holds ∙ length-paste out₀ at part k s.room s.there

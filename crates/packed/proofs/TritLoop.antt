@@ -12,54 +12,54 @@ use lib.Dec.{ltb}
 use mir.Val.{bool_byte}
 use lib.ListN.{length, get_or, take, drop, replicate, length-map, length-append, drop_of_length-le}
 use lib.Seq.{paste, take-paste, take-nil, take-append-add, take-append-le, take_all, drop-cons, length-paste}
-use Rattle.distr.specs.Words.{Read, got, short, mapRead}
+use Rattle.distr.specs.Words.{Read, got, short, map_read}
 use Rattle.distr.specs.Packed.{digits, split}
-use Rattle.distr.specs.UniformTernary.{acceptedBytes, bytes, rejectedBytes}
-use Rattle.distr.proofs.Reading.{map-read-twice, map-read-same}
+use Rattle.distr.specs.UniformTernary.{accepted_bytes, bytes, rejected_bytes}
+use Rattle.distr.proofs.Reading.{map_read_twice, map_read_same}
 use Rattle.distr.proofs.Digits.{length_digits, length-split}
-use Rattle.distr.proofs.Writing.{map-append, map-take}
+use Rattle.distr.proofs.Writing.{map_append, map-take}
 use Rattle.packed.specs.declared.bytes.Ended.{Ended}
-use Rattle.packed.specs.Pairs.{digitValue, digitValues}
-use Rattle.packed.specs.Trits.{bytesWanted, bytesLooked, tritsFrom, TritTables, BytesStored, Looked}
+use Rattle.packed.specs.Pairs.{digit_value, digit_values}
+use Rattle.packed.specs.Trits.{bytes_wanted, bytes_looked, trits_from, TritTables, BytesStored, Looked}
 use Rattle.packed.proofs.Packing.{from_front}
-use Rattle.packed.proofs.Rejecting.{accepted-append, lookedFrom, looked-words, looked-next, looked-none, looked-front}
+use Rattle.packed.proofs.Rejecting.{accepted_append, looked_from, looked_words, looked_next, looked_none, looked_front}
 
-read-id : {A : Type 0} (r : Read A) → mapRead (λ a. a) r ≡ r
-unfolding mapRead
-read-id (got a rest) = refl
-read-id short = refl
+read_id : {A : Type 0} (r : Read A) → map_read (λ a. a) r ≡ r
+unfolding map_read
+read_id (got a rest) = refl
+read_id short = refl
 
 -- the digits of two lists, one after the other
-split-append : (xs ys : List ℕ) → split 3 5 (xs ++ ys) ≡ split 3 5 xs ++ split 3 5 ys
+split_append : (xs ys : List ℕ) → split 3 5 (xs ++ ys) ≡ split 3 5 xs ++ split 3 5 ys
 unfolding split
-split-append [] ys = refl
-split-append (x ∷ xs) ys = ap (λ (l : List ℕ). digits 3 5 x ++ l) (split-append xs ys) ∙ sym (append_assoc (digits 3 5 x) (split 3 5 xs) (split 3 5 ys))
+split_append [] ys = refl
+split_append (x ∷ xs) ys = ap (λ (l : List ℕ). digits 3 5 x ++ l) (split_append xs ys) ∙ sym (append_assoc (digits 3 5 x) (split 3 5 xs) (split 3 5 ys))
 
 -- m accepted bytes, first from those left of a word and then from the words after it
-abbrev bytesFrom : List ℕ → List ℕ → ℕ → Read (List ℕ)
-bytesFrom left ws m = mapRead (λ rest. take m (acceptedBytes left) ++ rest) (bytes ws (m - length (acceptedBytes left)))
+abbrev bytes_from : List ℕ → List ℕ → ℕ → Read (List ℕ)
+bytes_from left ws m = map_read (λ rest. take m (accepted_bytes left) ++ rest) (bytes ws (m - length (accepted_bytes left)))
 
 -- no byte is left: the words alone
-from-words : (ws : List ℕ) (m : ℕ) → bytesFrom [] ws m ≡ bytes ws m
-unfolding acceptedBytes
-from-words ws m =
-    ap₂ (λ (front : List ℕ) (k : ℕ). mapRead (λ rest. front ++ rest) (bytes ws k)) (take-nil m) (sub-zero m)
-    ∙ read-id (bytes ws m)
+from_words : (ws : List ℕ) (m : ℕ) → bytes_from [] ws m ≡ bytes ws m
+unfolding accepted_bytes
+from_words ws m =
+    ap₂ (λ (front : List ℕ) (k : ℕ). map_read (λ rest. front ++ rest) (bytes ws k)) (take-nil m) (sub-zero m)
+    ∙ read_id (bytes ws m)
 
 -- the next word's bytes
-from_next : (w : ℕ) (ws : List ℕ) (m : ℕ) → bytesFrom [] (w ∷ ws) (suc m) ≡ bytesFrom (digits 256 4 w) ws (suc m)
+from_next : (w : ℕ) (ws : List ℕ) (m : ℕ) → bytes_from [] (w ∷ ws) (suc m) ≡ bytes_from (digits 256 4 w) ws (suc m)
 unfolding bytes
-from_next w ws m = from-words (w ∷ ws) (suc m)
+from_next w ws m = from_words (w ∷ ws) (suc m)
 
 -- no word is left
-from-none : (m : ℕ) → bytesFrom [] [] (suc m) ≡ short
+from_none : (m : ℕ) → bytes_from [] [] (suc m) ≡ short
 unfolding bytes
-from-none m = from-words [] (suc m)
+from_none m = from_words [] (suc m)
 
 -- enough bytes: the words stay as they are
-from-enough : (left ws : List ℕ) → bytesFrom left ws 0 ≡ got [] ws
+from_enough : (left ws : List ℕ) → bytes_from left ws 0 ≡ got [] ws
 unfolding bytes
-from-enough left ws = ap (λ (k : ℕ). mapRead (λ rest. rest) (bytes ws k)) (zero-sub (length (acceptedBytes left))) ∙ read-id (bytes ws 0) ∙ none ws
+from_enough left ws = ap (λ (k : ℕ). map_read (λ rest. rest) (bytes ws k)) (zero-sub (length (accepted_bytes left))) ∙ read_id (bytes ws 0) ∙ none ws
   where
     none : (vs : List ℕ) → bytes vs 0 ≡ got [] vs
     none [] = refl
@@ -67,19 +67,19 @@ from-enough left ws = ap (λ (k : ℕ). mapRead (λ rest. rest) (bytes ws k)) (z
 
 -- the first bytes, all wanted, and then what is left
 from_bytes : (bs left ws : List ℕ) (m : ℕ)
-    → bytesFrom (bs ++ left) ws (length (acceptedBytes bs) + m) ≡ mapRead (λ ds. acceptedBytes bs ++ ds) (bytesFrom left ws m)
+    → bytes_from (bs ++ left) ws (length (accepted_bytes bs) + m) ≡ map_read (λ ds. accepted_bytes bs ++ ds) (bytes_from left ws m)
 from_bytes bs left ws m =
-    let front : List ℕ = acceptedBytes bs in
-    let back : List ℕ = acceptedBytes left in
+    let front : List ℕ = accepted_bytes bs in
+    let back : List ℕ = accepted_bytes left in
     let less : length front + m - length (front ++ back) ≡ m - length back = rw (length-append front back) (omega arith) in
-    rw (accepted-append bs left)
-    (ap₂ (λ (l : List ℕ) (k : ℕ). mapRead (λ rest. l ++ rest) (bytes ws k)) (take-append-add front back m) less
-    ∙ map-read-same (λ rest. (front ++ take m back) ++ rest) (λ rest. front ++ (take m back ++ rest)) (append_assoc front (take m back)) (bytes ws (m - length back))
-    ∙ sym (map-read-twice (λ ds. front ++ ds) (λ rest. take m back ++ rest) (bytes ws (m - length back))))
+    rw (accepted_append bs left)
+    (ap₂ (λ (l : List ℕ) (k : ℕ). map_read (λ rest. l ++ rest) (bytes ws k)) (take-append-add front back m) less
+    ∙ map_read_same (λ rest. (front ++ take m back) ++ rest) (λ rest. front ++ (take m back ++ rest)) (append_assoc front (take m back)) (bytes ws (m - length back))
+    ∙ sym (map_read_twice (λ ds. front ++ ds) (λ rest. take m back ++ rest) (bytes ws (m - length back))))
 
-digits-none : {left : ℕ} (x : ℕ) → left ≡ 0 → digits 256 left x ≡ []
+digits_none : {left : ℕ} (x : ℕ) → left ≡ 0 → digits 256 left x ≡ []
 unfolding digits
-digits-none x z = ap (λ (k : ℕ). digits 256 k x) z
+digits_none x z = ap (λ (k : ℕ). digits 256 k x) z
 
 digits_more : (left x : ℕ) → 0 < left → digits 256 left x ≡ (x % 256 ∷ []) ++ digits 256 (left - 1) (x / 256)
 unfolding digits
@@ -95,13 +95,13 @@ once false = omega arith
 
 -- Storing bytes: one, and one before others.
 module _ {A : Type 0} (z : A) (pairs : List A) where
-  byte-stored-by : (byte : ℕ) (t : Bool) → ltb byte 243 ≡ t → {out out' : List A} {at at' : ℕ} → at + 5 ≤ length out → at' ≡ at + 5 * bool_byte t
-      → (take at out' ≡ take at out) × (byte < 243 → out' ≡ paste out at (digitValues z pairs (digits 3 5 byte)) 5) → BytesStored z pairs out at (byte ∷ []) out' at'
-  unfolding acceptedBytes split
-  byte-stored-by byte true e {out} {out'} {at} {at'} h r s =
+  byte_stored-by : (byte : ℕ) (t : Bool) → ltb byte 243 ≡ t → {out out' : List A} {at at' : ℕ} → at + 5 ≤ length out → at' ≡ at + 5 * bool_byte t
+      → (take at out' ≡ take at out) × (byte < 243 → out' ≡ paste out at (digit_values z pairs (digits 3 5 byte)) 5) → BytesStored z pairs out at (byte ∷ []) out' at'
+  unfolding accepted_bytes split
+  byte_stored-by byte true e {out} {out'} {at} {at'} h r s =
       let D : List ℕ = digits 3 5 byte in
-      let vs : List A = digitValues z pairs D in
-      let five : length vs ≡ 5 = length-map D (digitValue z pairs) ∙ length_digits 3 5 byte in
+      let vs : List A = digit_values z pairs D in
+      let five : length vs ≡ 5 = length-map D (digit_value z pairs) ∙ length_digits 3 5 byte in
       let room : at ≤ length out = omega arith in
       record {
         moved = rw e r;
@@ -112,7 +112,7 @@ module _ {A : Type 0} (z : A) (pairs : List A) where
             ∙ take-paste out at vs 5 room (le_of_eq (sym five))
             ∙ ap (λ (l : List A). take at out ++ l) (take_all 5 vs (le_of_eq five)));
       }
-  byte-stored-by byte false e {out} {out'} {at} {at'} h r s =
+  byte_stored-by byte false e {out} {out'} {at} {at'} h r s =
       let stays : at' ≡ at = omega arith in
       record {
         moved = rw e r;
@@ -120,18 +120,18 @@ module _ {A : Type 0} (z : A) (pairs : List A) where
         holds = rw e (ap (λ (k : ℕ). take k out') stays ∙ s.0 ∙ sym (append-nil (take at out)));
       }
 
-  pub byte-stored : (byte : ℕ) {out out' : List A} {at at' : ℕ} → at + 5 ≤ length out → at' ≡ at + 5 * bool_byte (ltb byte 243)
-      → (take at out' ≡ take at out) × (byte < 243 → out' ≡ paste out at (digitValues z pairs (digits 3 5 byte)) 5) → BytesStored z pairs out at (byte ∷ []) out' at'
-  byte-stored byte h r s = byte-stored-by byte (ltb byte 243) refl h r s
+  pub byte_stored : (byte : ℕ) {out out' : List A} {at at' : ℕ} → at + 5 ≤ length out → at' ≡ at + 5 * bool_byte (ltb byte 243)
+      → (take at out' ≡ take at out) × (byte < 243 → out' ≡ paste out at (digit_values z pairs (digits 3 5 byte)) 5) → BytesStored z pairs out at (byte ∷ []) out' at'
+  byte_stored byte h r s = byte_stored-by byte (ltb byte 243) refl h r s
 
   pub bytes-stored : {b : ℕ} {bs : List ℕ} {out out₁ out₂ : List A} {at at₁ at₂ : ℕ} → BytesStored z pairs out at (b ∷ []) out₁ at₁
       → BytesStored z pairs out₁ at₁ bs out₂ at₂ → BytesStored z pairs out at (b ∷ bs) out₂ at₂
   bytes-stored {b} {bs} {out} {out₁} {out₂} {at} {at₁} {at₂} s t =
-      let front : List ℕ = acceptedBytes (b ∷ []) in
-      let back : List ℕ = acceptedBytes bs in
-      let both : acceptedBytes (b ∷ bs) ≡ front ++ back = accepted-append (b ∷ []) bs in
-      let here : List A = digitValues z pairs (split 3 5 front) in
-      let there : List A = digitValues z pairs (split 3 5 back) in
+      let front : List ℕ = accepted_bytes (b ∷ []) in
+      let back : List ℕ = accepted_bytes bs in
+      let both : accepted_bytes (b ∷ bs) ≡ front ++ back = accepted_append (b ∷ []) bs in
+      let here : List A = digit_values z pairs (split 3 5 front) in
+      let there : List A = digit_values z pairs (split 3 5 back) in
       let m = s.moved in
       let n = t.moved in
       let v = s.within in
@@ -144,26 +144,26 @@ module _ {A : Type 0} (z : A) (pairs : List A) where
             ∙ ap (λ (l : List A). l ++ there) s.holds
             ∙ append_assoc (take at out) here there
             ∙ ap (λ (l : List A). take at out ++ l)
-            (sym (map-append (digitValue z pairs) (split 3 5 front) (split 3 5 back))
-            ∙ ap (digitValues z pairs) (sym (split-append front back) ∙ ap (split 3 5) (sym both)));
+            (sym (map_append (digit_value z pairs) (split 3 5 front) (split 3 5 back))
+            ∙ ap (digit_values z pairs) (sym (split_append front back) ∙ ap (split 3 5) (sym both)));
       }
 
 module _ {A : Type 0} (z : A) (pairs : List A) (groups words : List ℕ) (out₀ : List A) (from place : ℕ) where
   -- what the rule gives
   abbrev Whole : Read (List A)
-  Whole = tritsFrom z pairs out₀ from (drop place words)
+  Whole = trits_from z pairs out₀ from (drop place words)
 
   -- what is written, with the values of the digits that the bytes to come hold
   abbrev finished : ℕ → List A → List ℕ → List A
-  finished at out ds = take at out ++ digitValues z pairs (take (length out₀ - at) (split 3 5 ds))
+  finished at out ds = take at out ++ digit_values z pairs (take (length out₀ - at) (split 3 5 ds))
 
   -- what the rule gives from the bytes and words left
   abbrev Left : List A → ℕ → List ℕ → ℕ → Read (List A)
-  Left out at bs next = mapRead (finished at out) (bytesFrom bs (drop next words) (bytesWanted (length out₀ - at)))
+  Left out at bs next = map_read (finished at out) (bytes_from bs (drop next words) (bytes_wanted (length out₀ - at)))
 
   -- the bytes that it looks at there, and those before the next word
   abbrev LeftLooked : ℕ → List ℕ → ℕ → ℕ
-  LeftLooked at bs next = lookedFrom bs (drop next words) (bytesWanted (length out₀ - at)) + 4 * next
+  LeftLooked at bs next = looked_from bs (drop next words) (bytes_wanted (length out₀ - at)) + 4 * next
 
   -- the state of the filling: `at` values are written, `next` is the next word's place, `left` bytes are left in `rest`
   pub record TritLoop (out : List A) (at next rest left : ℕ) : Type 0 where
@@ -173,85 +173,85 @@ module _ {A : Type 0} (z : A) (pairs : List A) (groups words : List ℕ) (out₀
     pub tables : TritTables z pairs groups
     pub same : Left out at (digits 256 left rest) next ≡ Whole
     pub few : left ≤ 4
-    pub looked : bytesLooked (drop place words) (length out₀ - from) + left + 4 * place ≡ LeftLooked at (digits 256 left rest) next
+    pub looked : bytes_looked (drop place words) (length out₀ - from) + left + 4 * place ≡ LeftLooked at (digits 256 left rest) next
 
-  pub trit-none : from ≤ length out₀ → place ≤ length words → TritTables z pairs groups → TritLoop out₀ from place 0 0
+  pub trit_none : from ≤ length out₀ → place ≤ length words → TritTables z pairs groups → TritLoop out₀ from place 0 0
   unfolding digits
-  trit-none f h p = record {
+  trit_none f h p = record {
     sized = refl;
     within = f;
     found = h;
     tables = p;
-    same = ap (mapRead (finished from out₀)) (from-words (drop place words) (bytesWanted (length out₀ - from)));
+    same = ap (map_read (finished from out₀)) (from_words (drop place words) (bytes_wanted (length out₀ - from)));
     few = omega arith;
-    looked = omega (arith, looked-words (drop place words) (bytesWanted (length out₀ - from)));
+    looked = omega (arith, looked_words (drop place words) (bytes_wanted (length out₀ - from)));
   }
 
   -- some value is wanted, so some byte is
-  wanted-more : {at : ℕ} → at < length out₀ → bytesWanted (length out₀ - at) ≡ suc ((length out₀ - at - 1) / 5)
-  wanted-more {at} h = omega arith
+  wanted_more : {at : ℕ} → at < length out₀ → bytes_wanted (length out₀ - at) ≡ suc ((length out₀ - at - 1) / 5)
+  wanted_more {at} h = omega arith
 
   -- a word is read, whatever is asked of the bytes and words left
   next_word : {B : Type 0} (F : List ℕ → List ℕ → ℕ → B) → ((w : ℕ) (ws : List ℕ) (m : ℕ) → F [] (w ∷ ws) (suc m) ≡ F (digits 256 4 w) ws (suc m))
       → {at next left : ℕ} (rest : ℕ) → at < length out₀ → left ≡ 0 → next < length words
-      → F (digits 256 4 (get_or words next 0)) (drop (next + 1) words) (bytesWanted (length out₀ - at))
-      ≡ F (digits 256 left rest) (drop next words) (bytesWanted (length out₀ - at))
+      → F (digits 256 4 (get_or words next 0)) (drop (next + 1) words) (bytes_wanted (length out₀ - at))
+      ≡ F (digits 256 left rest) (drop next words) (bytes_wanted (length out₀ - at))
   next_word F step {at} {next} rest h none l =
       let m : ℕ = (length out₀ - at - 1) / 5 in
       let w : ℕ = get_or words next 0 in
-      ap₂ (λ (j k : ℕ). F (digits 256 4 w) (drop j words) k) (add-one next) (wanted-more h)
+      ap₂ (λ (j k : ℕ). F (digits 256 4 w) (drop j words) k) (add-one next) (wanted_more h)
       ∙ sym (step w (drop (suc next) words) m)
-      ∙ ap₂ (λ (ws : List ℕ) (k : ℕ). F [] ws k) (sym (drop-cons words next 0 l)) (sym (wanted-more h))
-      ∙ ap (λ (ds : List ℕ). F ds (drop next words) (bytesWanted (length out₀ - at))) (sym (digits-none rest none))
+      ∙ ap₂ (λ (ws : List ℕ) (k : ℕ). F [] ws k) (sym (drop-cons words next 0 l)) (sym (wanted_more h))
+      ∙ ap (λ (ds : List ℕ). F ds (drop next words) (bytes_wanted (length out₀ - at))) (sym (digits_none rest none))
 
-  pub trit-word : {out : List A} {at next rest left : ℕ} → at < length out₀ → left ≡ 0 → (next ≡ length words → ⊥) → TritLoop out at next rest left
+  pub trit_word : {out : List A} {at next rest left : ℕ} → at < length out₀ → left ≡ 0 → (next ≡ length words → ⊥) → TritLoop out at next rest left
       → TritLoop out at (next + 1) (get_or words next 0) 4
-  trit-word {out} {at} {next} {rest} h none more s =
+  trit_word {out} {at} {next} {rest} h none more s =
       let l : next < length words = omega (arith, s.found) in
       record {
         sized = s.sized;
         within = s.within;
         found = omega arith;
         tables = s.tables;
-        same = ap (mapRead (finished at out)) (next_word bytesFrom from_next rest h none l) ∙ s.same;
+        same = ap (map_read (finished at out)) (next_word bytes_from from_next rest h none l) ∙ s.same;
         few = omega arith;
-        looked = omega (arith, s.looked, next_word lookedFrom looked-next rest h none l);
+        looked = omega (arith, s.looked, next_word looked_from looked_next rest h none l);
       }
 
   -- bytes are taken off those left, and the values of their first digits are stored, which are all that there is room for
   left_less : (out out' : List A) (at at' next : ℕ) (bs left front : List ℕ)
-      → bytesWanted (length out₀ - at) ≡ length (acceptedBytes bs) + bytesWanted (length out₀ - at')
-      → ((ds : List ℕ) → take (length out₀ - at) (split 3 5 (acceptedBytes bs) ++ ds) ≡ front ++ take (length out₀ - at') ds)
-      → take at' out' ≡ take at out ++ digitValues z pairs front → Left out' at' left next ≡ Left out at (bs ++ left) next
+      → bytes_wanted (length out₀ - at) ≡ length (accepted_bytes bs) + bytes_wanted (length out₀ - at')
+      → ((ds : List ℕ) → take (length out₀ - at) (split 3 5 (accepted_bytes bs) ++ ds) ≡ front ++ take (length out₀ - at') ds)
+      → take at' out' ≡ take at out ++ digit_values z pairs front → Left out' at' left next ≡ Left out at (bs ++ left) next
   left_less out out' at at' next bs left front e takes o =
-      let accepted : List ℕ = acceptedBytes bs in
-      let m : ℕ = bytesWanted (length out₀ - at') in
+      let accepted : List ℕ = accepted_bytes bs in
+      let m : ℕ = bytes_wanted (length out₀ - at') in
       let ws : List ℕ = drop next words in
       let stored : (ds : List ℕ) → finished at' out' ds ≡ finished at out (accepted ++ ds) = λ ds.
       let rest : List ℕ = take (length out₀ - at') (split 3 5 ds) in
-      ap (λ (l : List A). l ++ digitValues z pairs rest) o
-      ∙ append_assoc (take at out) (digitValues z pairs front) (digitValues z pairs rest)
+      ap (λ (l : List A). l ++ digit_values z pairs rest) o
+      ∙ append_assoc (take at out) (digit_values z pairs front) (digit_values z pairs rest)
       ∙ ap (λ (l : List A). take at out ++ l)
-      (sym (map-append (digitValue z pairs) front rest)
-      ∙ ap (digitValues z pairs) (sym (takes (split 3 5 ds)) ∙ ap (take (length out₀ - at)) (sym (split-append accepted ds)))) in
-      map-read-same (finished at' out') (λ ds. finished at out (accepted ++ ds)) stored (bytesFrom left ws m)
-      ∙ sym (map-read-twice (finished at out) (λ ds. accepted ++ ds) (bytesFrom left ws m))
-      ∙ ap (mapRead (finished at out)) (sym (from_bytes bs left ws m) ∙ ap (bytesFrom (bs ++ left) ws) (sym e))
+      (sym (map_append (digit_value z pairs) front rest)
+      ∙ ap (digit_values z pairs) (sym (takes (split 3 5 ds)) ∙ ap (take (length out₀ - at)) (sym (split_append accepted ds)))) in
+      map_read_same (finished at' out') (λ ds. finished at out (accepted ++ ds)) stored (bytes_from left ws m)
+      ∙ sym (map_read_twice (finished at out) (λ ds. accepted ++ ds) (bytes_from left ws m))
+      ∙ ap (map_read (finished at out)) (sym (from_bytes bs left ws m) ∙ ap (bytes_from (bs ++ left) ws) (sym e))
 
   -- they were looked at, where no fewer are wanted
-  looked-less : (at at' next : ℕ) (bs left : List ℕ) → bytesWanted (length out₀ - at) ≡ length (acceptedBytes bs) + bytesWanted (length out₀ - at')
-      → length bs ≤ bytesWanted (length out₀ - at) → LeftLooked at (bs ++ left) next ≡ length bs + LeftLooked at' left next
-  looked-less at at' next bs left e h = rw e (omega (arith, looked-front bs left (drop next words) (bytesWanted (length out₀ - at')) (rw e at h)))
+  looked_less : (at at' next : ℕ) (bs left : List ℕ) → bytes_wanted (length out₀ - at) ≡ length (accepted_bytes bs) + bytes_wanted (length out₀ - at')
+      → length bs ≤ bytes_wanted (length out₀ - at) → LeftLooked at (bs ++ left) next ≡ length bs + LeftLooked at' left next
+  looked_less at at' next bs left e h = rw e (omega (arith, looked_front bs left (drop next words) (bytes_wanted (length out₀ - at')) (rw e at h)))
 
   -- bytes whose digits all have room
   wanted-stored : {out out' : List A} {at at' : ℕ} (bs : List ℕ) → at + 5 * length bs ≤ length out₀ → BytesStored z pairs out at bs out' at'
-      → bytesWanted (length out₀ - at) ≡ length (acceptedBytes bs) + bytesWanted (length out₀ - at')
+      → bytes_wanted (length out₀ - at) ≡ length (accepted_bytes bs) + bytes_wanted (length out₀ - at')
   wanted-stored bs h s = omega (arith, s.moved, s.within)
 
-  left-stored : {out out' : List A} {at at' : ℕ} (next : ℕ) (bs left : List ℕ) → at + 5 * length bs ≤ length out₀ → BytesStored z pairs out at bs out' at'
+  left_stored : {out out' : List A} {at at' : ℕ} (next : ℕ) (bs left : List ℕ) → at + 5 * length bs ≤ length out₀ → BytesStored z pairs out at bs out' at'
       → Left out' at' left next ≡ Left out at (bs ++ left) next
-  left-stored {out} {out'} {at} {at'} next bs left h s =
-      let accepted : List ℕ = acceptedBytes bs in
+  left_stored {out} {out'} {at} {at'} next bs left h s =
+      let accepted : List ℕ = accepted_bytes bs in
       let D : List ℕ = split 3 5 accepted in
       let r : ℕ = length out₀ - at' in
       let m = s.moved in
@@ -263,7 +263,7 @@ module _ {A : Type 0} (z : A) (pairs : List A) (groups words : List ℕ) (out₀
 
   -- a byte is taken off those left
   taken : {out out' : List A} {at at' next rest left : ℕ} → at < length out₀ → (left ≡ 0 → ⊥) → length out' ≡ length out₀ → at' ≤ length out₀
-      → bytesWanted (length out₀ - at) ≡ length (acceptedBytes (rest % 256 ∷ [])) + bytesWanted (length out₀ - at')
+      → bytes_wanted (length out₀ - at) ≡ length (accepted_bytes (rest % 256 ∷ [])) + bytes_wanted (length out₀ - at')
       → Left out' at' (digits 256 (left - 1) (rest / 256)) next ≡ Left out at ((rest % 256 ∷ []) ++ digits 256 (left - 1) (rest / 256)) next
       → TritLoop out at next rest left → TritLoop out' at' next (rest / 256) (left - 1)
   taken {out} {at = at} {at' = at'} {next = next} {rest = rest} {left = left} h k e w wanted step s =
@@ -280,25 +280,25 @@ module _ {A : Type 0} (z : A) (pairs : List A) (groups words : List ℕ) (out₀
               arith,
               s.looked,
               ap (λ (ds : List ℕ). LeftLooked at ds next) more,
-              looked-less at at' next (rest % 256 ∷ []) (digits 256 (left - 1) (rest / 256)) wanted (omega arith),
+              looked_less at at' next (rest % 256 ∷ []) (digits 256 (left - 1) (rest / 256)) wanted (omega arith),
             );
       }
 
   -- its digits are stored, or it is skipped
-  pub trit-byte : {out out' : List A} {at at' next rest left : ℕ} → at + 5 ≤ length out₀ → (left ≡ 0 → ⊥) → length out' ≡ length out
+  pub trit_byte : {out out' : List A} {at at' next rest left : ℕ} → at + 5 ≤ length out₀ → (left ≡ 0 → ⊥) → length out' ≡ length out
       → TritLoop out at next rest left → BytesStored z pairs out at (rest % 256 ∷ []) out' at' → TritLoop out' at' next (rest / 256) (left - 1)
-  trit-byte {next = next} {rest = rest} {left = left} l k e s b =
+  trit_byte {next = next} {rest = rest} {left = left} l k e s b =
       let w = b.within in
       taken (omega arith) k (e ∙ s.sized) (omega arith) (wanted-stored (rest % 256 ∷ []) l b)
-      (left-stored next (rest % 256 ∷ []) (digits 256 (left - 1) (rest / 256)) l b) s
+      (left_stored next (rest % 256 ∷ []) (digits 256 (left - 1) (rest / 256)) l b) s
 
   -- a whole word's digits are stored
-  pub trit-whole : {out out' : List A} {at at' next : ℕ} → at + 20 ≤ length out₀ → next < length words → length out' ≡ length out
+  pub trit_whole : {out out' : List A} {at at' next : ℕ} → at + 20 ≤ length out₀ → next < length words → length out' ≡ length out
       → TritLoop out at next 0 0 → BytesStored z pairs out at (digits 256 4 (get_or words next 0)) out' at' → TritLoop out' at' (next + 1) 0 0
   unfolding digits
-  trit-whole {out} {at = at} {at' = at'} {next = next} l k e s b =
+  trit_whole {out} {at = at} {at' = at'} {next = next} l k e s b =
       let w : ℕ = get_or words next 0 in
-      let read = trit-word {rest = 0} (omega arith) refl (λ e. omega arith) s in
+      let read = trit_word {rest = 0} (omega arith) refl (λ e. omega arith) s in
       let four : length (digits 256 4 w) ≡ 4 = length_digits 256 4 w in
       let within = b.within in
       record {
@@ -307,7 +307,7 @@ module _ {A : Type 0} (z : A) (pairs : List A) (groups words : List ℕ) (out₀
         found = omega arith;
         tables = s.tables;
         same =
-            left-stored (next + 1) (digits 256 4 w) [] (omega arith) b
+            left_stored (next + 1) (digits 256 4 w) [] (omega arith) b
             ∙ ap (λ (ds : List ℕ). Left out at ds (next + 1)) (append-nil (digits 256 4 w))
             ∙ read.same;
         few = omega arith;
@@ -316,42 +316,42 @@ module _ {A : Type 0} (z : A) (pairs : List A) (groups words : List ℕ) (out₀
               arith,
               read.looked,
               ap (λ (ds : List ℕ). LeftLooked at ds (next + 1)) (append-nil (digits 256 4 w)),
-              looked-less at at' (next + 1) (digits 256 4 w) [] (wanted-stored (digits 256 4 w) (omega arith) b) (omega arith),
+              looked_less at at' (next + 1) (digits 256 4 w) [] (wanted-stored (digits 256 4 w) (omega arith) b) (omega arith),
             );
       }
 
   -- the last digits, as many as there is room for, stored aside over eight zeros and copied
-  pub trit-last : {out out' part : List A} {at next rest left : ℕ} → at < length out₀ → length out₀ < at + 5 → (left ≡ 0 → ⊥) → rest % 256 < 243
-      → TritLoop out at next rest left → (rest % 256 < 243 → part ≡ paste (replicate 8 z) 0 (digitValues z pairs (digits 3 5 (rest % 256))) 5) → out' ≡ paste out at part (length out - at)
+  pub trit_last : {out out' part : List A} {at next rest left : ℕ} → at < length out₀ → length out₀ < at + 5 → (left ≡ 0 → ⊥) → rest % 256 < 243
+      → TritLoop out at next rest left → (rest % 256 < 243 → part ≡ paste (replicate 8 z) 0 (digit_values z pairs (digits 3 5 (rest % 256))) 5) → out' ≡ paste out at part (length out - at)
       → TritLoop out' (length out₀) next (rest / 256) (left - 1)
-  unfolding acceptedBytes split
-  trit-last {out} {out'} {at = at} {next = next} {rest = rest} {left = left} l l' k m s p o =
+  unfolding accepted_bytes split
+  trit_last {out} {out'} {at = at} {next = next} {rest = rest} {left = left} l l' k m s p o =
       let b : ℕ = rest % 256 in
       let D : List ℕ = digits 3 5 b in
-      let vs : List A = digitValues z pairs D in
+      let vs : List A = digit_values z pairs D in
       let count : ℕ = length out₀ - at in
       let sized = s.sized in
       let five : length D ≡ 5 = length_digits 3 5 b in
-      let fives : length vs ≡ 5 = length-map D (digitValue z pairs) ∙ five in
+      let fives : length vs ≡ 5 = length-map D (digit_value z pairs) ∙ five in
       let fits : count ≤ length D = omega arith in
       let end : at + count ≡ length out₀ = omega arith in
       let none : length out₀ - length out₀ ≡ 0 = omega arith in
       let copied : out' ≡ paste out at vs count = from_front (replicate 8 z) vs out at 5 count (omega arith) (le_of_eq (sym fives)) (p m) (rw sized at o) in
-      let wanted : bytesWanted (length out₀ - at) ≡ length (acceptedBytes (b ∷ [])) + bytesWanted (length out₀ - length out₀) =
+      let wanted : bytes_wanted (length out₀ - at) ≡ length (accepted_bytes (b ∷ [])) + bytes_wanted (length out₀ - length out₀) =
       rw (lt-ltb b 243 m) (omega arith) in
       taken l k (ap length copied ∙ length-paste out at vs count (omega arith) (omega arith) ∙ sized) (omega arith) wanted
       (left_less out out' at (length out₀) next (b ∷ []) (digits 256 (left - 1) (rest / 256)) (take count D)
       wanted
       (λ ds. rw (lt-ltb b 243 m, append-nil D) (take-append-le count D ds fits ∙ sym (append-nil (take count D)) ∙ ap (λ (j : ℕ). take count D ++ take j ds) (sym none)))
-      (ap₂ take (sym end) copied ∙ take-paste out at vs count (omega arith) (omega arith) ∙ ap (λ (l : List A). take at out ++ l) (sym (map-take (digitValue z pairs) count D))))
+      (ap₂ take (sym end) copied ∙ take-paste out at vs count (omega arith) (omega arith) ∙ ap (λ (l : List A). take at out ++ l) (sym (map-take (digit_value z pairs) count D))))
       s
 
   -- a byte is skipped
-  pub trit-skip : {out : List A} {at next rest left : ℕ} → at < length out₀ → (left ≡ 0 → ⊥) → 243 ≤ rest % 256 → TritLoop out at next rest left
+  pub trit_skip : {out : List A} {at next rest left : ℕ} → at < length out₀ → (left ≡ 0 → ⊥) → 243 ≤ rest % 256 → TritLoop out at next rest left
       → TritLoop out at next (rest / 256) (left - 1)
-  unfolding acceptedBytes split
-  trit-skip {out} {at} {next} {rest} {left} h k l s =
-      let wanted : bytesWanted (length out₀ - at) ≡ length (acceptedBytes (rest % 256 ∷ [])) + bytesWanted (length out₀ - at) =
+  unfolding accepted_bytes split
+  trit_skip {out} {at} {next} {rest} {left} h k l s =
+      let wanted : bytes_wanted (length out₀ - at) ≡ length (accepted_bytes (rest % 256 ∷ [])) + bytes_wanted (length out₀ - at) =
       rw (le-ltb (rest % 256) 243 l) (omega arith) in
       taken h k s.sized s.within wanted
       (left_less out out at at next (rest % 256 ∷ []) (digits 256 (left - 1) (rest / 256)) []
@@ -359,77 +359,77 @@ module _ {A : Type 0} (z : A) (pairs : List A) (groups words : List ℕ) (out₀
       s
 
   -- no byte is left: the words alone
-  trit-paused : {out : List A} {at next : ℕ} → TritLoop out at next 0 0 → tritsFrom z pairs out at (drop next words) ≡ Whole
+  trit_paused : {out : List A} {at next : ℕ} → TritLoop out at next 0 0 → trits_from z pairs out at (drop next words) ≡ Whole
   unfolding digits
-  trit-paused {out} {at} {next} s =
-      ap (λ (n : ℕ). mapRead (λ ds. take at out ++ digitValues z pairs (take (n - at) (split 3 5 ds))) (bytes (drop next words) (bytesWanted (n - at)))) s.sized
-      ∙ ap (mapRead (finished at out)) (sym (from-words (drop next words) (bytesWanted (length out₀ - at))))
+  trit_paused {out} {at} {next} s =
+      ap (λ (n : ℕ). map_read (λ ds. take at out ++ digit_values z pairs (take (n - at) (split 3 5 ds))) (bytes (drop next words) (bytes_wanted (n - at)))) s.sized
+      ∙ ap (map_read (finished at out)) (sym (from_words (drop next words) (bytes_wanted (length out₀ - at))))
       ∙ s.same
 
   -- a word is missing
-  pub trit-short : {out : List A} {at next rest left : ℕ} → at < length out₀ → left ≡ 0 → next ≡ length words → TritLoop out at next rest left → short ≡ Whole
-  unfolding mapRead
-  trit-short {out} {at} {next} {rest} h none l s =
-      sym (ap (mapRead (finished at out))
-      (ap₂ (λ (ds ws : List ℕ). bytesFrom ds ws (bytesWanted (length out₀ - at))) (digits-none rest none) (drop_of_length-le words (le_of_eq (sym l)))
-      ∙ ap (bytesFrom [] []) (wanted-more h)
-      ∙ from-none ((length out₀ - at - 1) / 5)))
+  pub trit_short : {out : List A} {at next rest left : ℕ} → at < length out₀ → left ≡ 0 → next ≡ length words → TritLoop out at next rest left → short ≡ Whole
+  unfolding map_read
+  trit_short {out} {at} {next} {rest} h none l s =
+      sym (ap (map_read (finished at out))
+      (ap₂ (λ (ds ws : List ℕ). bytes_from ds ws (bytes_wanted (length out₀ - at))) (digits_none rest none) (drop_of_length-le words (le_of_eq (sym l)))
+      ∙ ap (bytes_from [] []) (wanted_more h)
+      ∙ from_none ((length out₀ - at - 1) / 5)))
       ∙ s.same
 
   -- all is written
-  pub trit-done : {out : List A} {at next rest left : ℕ} → length out₀ ≤ at → TritLoop out at next rest left → got out (drop next words) ≡ Whole
-  unfolding mapRead split
-  trit-done {out} {at} {next} {rest} {left} h s =
-      let none : bytesWanted (length out₀ - at) ≡ 0 = omega arith in
+  pub trit_done : {out : List A} {at next rest left : ℕ} → length out₀ ≤ at → TritLoop out at next rest left → got out (drop next words) ≡ Whole
+  unfolding map_read split
+  trit_done {out} {at} {next} {rest} {left} h s =
+      let none : bytes_wanted (length out₀ - at) ≡ 0 = omega arith in
       let all : length out ≤ at = rw s.sized h in
       ap (λ (l : List A). got l (drop next words))
-      (sym (append-nil out) ∙ ap₂ (λ (x y : List A). x ++ y) (sym (take_all at out all)) (ap (map (digitValue z pairs)) (sym (take-nil (length out₀ - at)))))
-      ∙ ap (mapRead (finished at out)) (sym (from-enough (digits 256 left rest) (drop next words))
-      ∙ ap (bytesFrom (digits 256 left rest) (drop next words)) (sym none))
+      (sym (append-nil out) ∙ ap₂ (λ (x y : List A). x ++ y) (sym (take_all at out all)) (ap (map (digit_value z pairs)) (sym (take-nil (length out₀ - at)))))
+      ∙ ap (map_read (finished at out)) (sym (from_enough (digits 256 left rest) (drop next words))
+      ∙ ap (bytes_from (digits 256 left rest) (drop next words)) (sym none))
       ∙ s.same
 
-  pub looked-done : {out : List A} {at next rest left : ℕ} → length out₀ ≤ at → TritLoop out at next rest left
+  pub looked_done : {out : List A} {at next rest left : ℕ} → length out₀ ≤ at → TritLoop out at next rest left
       → Looked (record { found = true; place = next; left = left }) words place (length out₀ - from)
-  looked-done {out} {at} {next} {rest} {left} h s =
-      let none : bytesWanted (length out₀ - at) ≡ 0 = omega arith in
+  looked_done {out} {at} {next} {rest} {left} h s =
+      let none : bytes_wanted (length out₀ - at) ≡ 0 = omega arith in
       let over : LeftLooked at (digits 256 left rest) next ≡ 4 * next =
-      rw none (omega (arith, looked-none (digits 256 left rest) (drop next words))) in
+      rw none (omega (arith, looked_none (digits 256 left rest) (drop next words))) in
       record { few = s.few; all = λ f. omega (arith, s.looked, over) }
 
 -- from the start of the output the rule is the plain one
-pub trits-all : {A : Type 0} (z : A) (pairs out : List A) (ws : List ℕ)
-    → tritsFrom z pairs out 0 ws ≡ mapRead (λ ds. digitValues z pairs (take (length out) (split 3 5 ds))) (bytes ws ((length out + 4) / 5))
-trits-all z pairs out ws =
-    ap (λ (k : ℕ). mapRead (λ ds. digitValues z pairs (take k (split 3 5 ds))) (bytes ws (bytesWanted k))) (sub-zero (length out))
+pub trits_all : {A : Type 0} (z : A) (pairs out : List A) (ws : List ℕ)
+    → trits_from z pairs out 0 ws ≡ map_read (λ ds. digit_values z pairs (take (length out) (split 3 5 ds))) (bytes ws ((length out + 4) / 5))
+trits_all z pairs out ws =
+    ap (λ (k : ℕ). map_read (λ ds. digit_values z pairs (take k (split 3 5 ds))) (bytes ws (bytes_wanted k))) (sub-zero (length out))
 
 -- ---- the bytes looked at, where whole words were stored from the start and the others read from there
 module _ (words : List ℕ) (place : ℕ) where
-  looked-paused : {A : Type 0} (z : A) (pairs : List A) (groups : List ℕ) (out₀ : List A) {out : List A} {at next : ℕ} → TritLoop z pairs groups words out₀ 0 place out at next 0 0
-      → bytesLooked (drop place words) (length out₀) + 4 * place ≡ bytesLooked (drop next words) (length out - at) + 4 * next
+  looked_paused : {A : Type 0} (z : A) (pairs : List A) (groups : List ℕ) (out₀ : List A) {out : List A} {at next : ℕ} → TritLoop z pairs groups words out₀ 0 place out at next 0 0
+      → bytes_looked (drop place words) (length out₀) + 4 * place ≡ bytes_looked (drop next words) (length out - at) + 4 * next
   unfolding digits
-  looked-paused z pairs groups out₀ {at = at} {next = next} s =
+  looked_paused z pairs groups out₀ {at = at} {next = next} s =
       let whole = rw (sub-zero (length out₀)) at s.looked in
-      rw s.sized (omega (arith, whole, looked-words (drop next words) (bytesWanted (length out₀ - at))))
+      rw s.sized (omega (arith, whole, looked_words (drop next words) (bytes_wanted (length out₀ - at))))
 
   -- all that is said where the storing of whole words ends
   pub words-stored : {A : Type 0} (z : A) (pairs : List A) (groups : List ℕ) (out₀ : List A) {out : List A} {at next : ℕ} → TritLoop z pairs groups words out₀ 0 place out at next 0 0
-      → ((at ≤ length out) × (next ≤ length words) × (tritsFrom z pairs out at (drop next words) ≡ tritsFrom z pairs out₀ 0 (drop place words)))
-      × (bytesLooked (drop place words) (length out₀) + 4 * place ≡ bytesLooked (drop next words) (length out - at) + 4 * next)
+      → ((at ≤ length out) × (next ≤ length words) × (trits_from z pairs out at (drop next words) ≡ trits_from z pairs out₀ 0 (drop place words)))
+      × (bytes_looked (drop place words) (length out₀) + 4 * place ≡ bytes_looked (drop next words) (length out - at) + 4 * next)
   words-stored z pairs groups out₀ s =
-      ((omega (arith, s.within, s.sized), s.found, trit-paused z pairs groups words out₀ 0 place s), looked-paused z pairs groups out₀ s)
+      ((omega (arith, s.within, s.sized), s.found, trit_paused z pairs groups words out₀ 0 place s), looked_paused z pairs groups out₀ s)
 
-  pub looked-short : (k at : ℕ) → Looked (record { found = false; place = at; left = 0 }) words place k
-  looked-short k at = record { few = omega arith; all = λ f. absurd (true≢false (sym f)) }
+  pub looked_short : (k at : ℕ) → Looked (record { found = false; place = at; left = 0 }) words place k
+  looked_short k at = record { few = omega arith; all = λ f. absurd (true≢false (sym f)) }
 
-  pub looked-all : (n next k : ℕ) {e : Ended} → bytesLooked (drop place words) n + 4 * place ≡ bytesLooked (drop next words) k + 4 * next
+  pub looked_all : (n next k : ℕ) {e : Ended} → bytes_looked (drop place words) n + 4 * place ≡ bytes_looked (drop next words) k + 4 * next
       → Looked e words next k → Looked e words place n
-  looked-all n next k stored rest = record { few = rest.few; all = λ f. omega (arith, stored, rest.all f) }
+  looked_all n next k stored rest = record { few = rest.few; all = λ f. omega (arith, stored, rest.all f) }
 
   -- so the bytes of the words taken are those left, those accepted and those rejected
   module _ (n : ℕ) {e : Ended} (l : Looked e words place n) (found : e.found ≡ true) where
-    pub taken-forward : place ≤ e.place
-    taken-forward = omega (arith, l.all found)
+    pub taken_forward : place ≤ e.place
+    taken_forward = omega (arith, l.all found)
 
-    pub taken-rejected : {k : ℕ} → k ≡ min (4 * (e.place - place) - (e.left + bytesWanted n)) (2 ^ 64 - 1)
-        → k ≡ min (rejectedBytes (drop place words) (bytesWanted n)) (2 ^ 64 - 1)
+    pub taken-rejected : {k : ℕ} → k ≡ min (4 * (e.place - place) - (e.left + bytes_wanted n)) (2 ^ 64 - 1)
+        → k ≡ min (rejected_bytes (drop place words) (bytes_wanted n)) (2 ^ 64 - 1)
     taken-rejected r = omega (arith, l.all found)

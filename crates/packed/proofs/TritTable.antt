@@ -13,26 +13,26 @@ use Rattle.distr.specs.Packed.{digits}
 use Rattle.packed.specs.declared.trits.Places.{Places}
 use Rattle.packed.specs.declared.trits.TritsBy.{TritsBy}
 use Rattle.packed.specs.declared.trits.TritsBy.TheVariants.{Table, Division}
-use Rattle.packed.specs.TritTable.{countUp, tritTable, kept, keptTable, TableRule, groupPlaces, digitsAt, dividedPlaces, places_by}
+use Rattle.packed.specs.TritTable.{count_up, trit_table, kept, kept_table, TableRule, group_places, digits_at, divided_places, places_by}
 
 -- the number at k
-count_at : (from count k : ℕ) → k < count → get_or (countUp from count) k 0 ≡ from + k
-unfolding countUp
+count_at : (from count k : ℕ) → k < count → get_or (count_up from count) k 0 ≡ from + k
+unfolding count_up
 count_at from zero k h = absurd (omega arith)
 count_at from (suc count) zero h = omega arith
 count_at from (suc count) (suc k) h = omega (arith, count_at (suc from) count k (omega arith))
 
 -- the group of a byte is its five digits
-pub group_at : (byte : ℕ) → byte < 243 → get_or tritTable byte (digits 3 5 0) ≡ digits 3 5 byte
-unfolding tritTable
-group_at byte h = get_or-map (digits 3 5) (countUp 0 243) byte 0 ∙ ap (digits 3 5) (count_at 0 243 byte h ∙ zero-add byte)
+pub group_at : (byte : ℕ) → byte < 243 → get_or trit_table byte (digits 3 5 0) ≡ digits 3 5 byte
+unfolding trit_table
+group_at byte h = get_or-map (digits 3 5) (count_up 0 243) byte 0 ∙ ap (digits 3 5) (count_at 0 243 byte h ∙ zero-add byte)
 
-kept_at : (byte : ℕ) → byte < 243 → get_or keptTable byte 0 ≡ kept (digits 3 5 byte)
-unfolding keptTable digits
-kept_at byte h = get_or-map kept tritTable byte (digits 3 5 0) ∙ ap kept (group_at byte h)
+kept_at : (byte : ℕ) → byte < 243 → get_or kept_table byte 0 ≡ kept (digits 3 5 byte)
+unfolding kept_table digits
+kept_at byte h = get_or-map kept trit_table byte (digits 3 5 0) ∙ ap kept (group_at byte h)
 
 -- a number of three parts
-parts : (p q r : ℕ) → p < 256 → q < 256 → groupPlaces (p + 256 * (q + 256 * r)) ≡ record { first = p; second = q; last = r }
+parts : (p q r : ℕ) → p < 256 → q < 256 → group_places (p + 256 * (q + 256 * r)) ≡ record { first = p; second = q; last = r }
 parts p q r h k =
     let g : ℕ = p + 256 * (q + 256 * r) in
     let first : g % 256 ≡ p = add-mul-mod_self_left p 256 (q + 256 * r) ∙ mod-eq_of_lt h in
@@ -48,7 +48,7 @@ weighed : (a b c d e : ℕ) {p q r : ℕ} → a + b * 3 ≡ p → c + d * 3 ≡ 
 weighed a b c d e f g h = omega arith
 
 -- where it says that they stand
-kept-places : (byte : ℕ) → byte < 243 → groupPlaces (kept (digits 3 5 byte)) ≡ dividedPlaces byte
+kept-places : (byte : ℕ) → byte < 243 → group_places (kept (digits 3 5 byte)) ≡ divided_places byte
 unfolding digits
 kept-places byte h =
     let nine : byte / 3 / 3 ≡ byte / 9 = omega arith in
@@ -56,15 +56,15 @@ kept-places byte h =
     let first : byte % 3 + byte / 3 % 3 * 3 ≡ byte % 9 = omega arith in
     let second : byte / 3 / 3 % 3 + byte / 3 / 3 / 3 % 3 * 3 ≡ byte / 9 % 9 = rw nine (omega arith) in
     let last : byte / 3 / 3 / 3 / 3 % 3 ≡ byte / 81 = rw top (omega arith) in
-    ap groupPlaces (weighed (byte % 3) (byte / 3 % 3) (byte / 3 / 3 % 3) (byte / 3 / 3 / 3 % 3) (byte / 3 / 3 / 3 / 3 % 3) first second last)
+    ap group_places (weighed (byte % 3) (byte / 3 % 3) (byte / 3 / 3 % 3) (byte / 3 / 3 / 3 % 3) (byte / 3 / 3 / 3 / 3 % 3) first second last)
     ∙ parts (byte % 9 * 2) (byte / 9 % 9 * 2) (byte / 81 * 2) (omega arith) (omega arith)
 
 -- and the digits that stand there are those of the byte
-size : length keptTable ≡ 243
-unfolding keptTable tritTable countUp
+size : length kept_table ≡ 243
+unfolding kept_table trit_table count_up
 size = refl
 
-digit_at : (byte k : ℕ) → byte < 243 → k < 5 → get_or (digitsAt (dividedPlaces byte)) k 0 ≡ byte / 3 ^ k % 3
+digit_at : (byte k : ℕ) → byte < 243 → k < 5 → get_or (digits_at (divided_places byte)) k 0 ≡ byte / 3 ^ k % 3
 digit_at byte zero h l = omega arith
 digit_at byte (suc zero) h l = omega arith
 digit_at byte (suc (suc zero)) h l = omega arith
@@ -72,12 +72,12 @@ digit_at byte (suc (suc (suc zero))) h l = omega arith
 digit_at byte (suc (suc (suc (suc zero)))) h l = omega arith
 digit_at byte (suc (suc (suc (suc (suc k))))) h l = absurd (omega arith)
 
-pub table-rule : TableRule keptTable
+pub table-rule : TableRule kept_table
 table-rule = record {
   groups = size;
   entries = λ byte k h l.
-      ap (λ (group : ℕ). get_or (digitsAt (groupPlaces group)) k 0) (kept_at byte h)
-      ∙ ap (λ (p : Places). get_or (digitsAt p) k 0) (kept-places byte h)
+      ap (λ (group : ℕ). get_or (digits_at (group_places group)) k 0) (kept_at byte h)
+      ∙ ap (λ (p : Places). get_or (digits_at p) k 0) (kept-places byte h)
       ∙ digit_at byte k h l;
 }
 
@@ -94,9 +94,9 @@ index_below byte = go (ltb byte 243) refl
     go false e = omega arith
 
 -- So both ways lead to the same places,
-pub same-places : (by : TritsBy) {table : List ℕ} → table ≡ keptTable → (byte : ℕ) → byte < 243 → places_by by table byte ≡ dividedPlaces byte
+pub same-places : (by : TritsBy) {table : List ℕ} → table ≡ kept_table → (byte : ℕ) → byte < 243 → places_by by table byte ≡ divided_places byte
 unfolding places_by
-same-places Table e byte h = rw (e, lt-ltb byte 243 h) (ap groupPlaces (kept_at byte h) ∙ kept-places byte h)
+same-places Table e byte h = rw (e, lt-ltb byte 243 h) (ap group_places (kept_at byte h) ∙ kept-places byte h)
 same-places Division e byte h = refl
 
 -- and those of a byte that is skipped are in a table of pairs too.
@@ -105,18 +105,18 @@ pub record Within (p : Places) : Type 0 where
   pub second : p.second + 2 ≤ 18
   pub last : p.last < 18
 
-divided-within : (byte : ℕ) → byte < 256 → Within (dividedPlaces byte)
-divided-within byte h = record { first = omega arith; second = omega arith; last = omega arith }
+divided_within : (byte : ℕ) → byte < 256 → Within (divided_places byte)
+divided_within byte h = record { first = omega arith; second = omega arith; last = omega arith }
 
-table-within : (byte : ℕ) → Within (places_by Table keptTable byte)
+table-within : (byte : ℕ) → Within (places_by Table kept_table byte)
 unfolding places_by
 table-within byte = go (ltb byte 243) refl
   where
-    go : (t : Bool) → ltb byte 243 ≡ t → Within (groupPlaces (get_or keptTable (cond t byte 0) 0))
-    go true e = let l = ltb-true byte 243 e in rw (kept_at byte l, kept-places byte l) (divided-within byte (omega arith))
-    go false e = rw (kept_at 0 (omega arith), kept-places 0 (omega arith)) (divided-within 0 (omega arith))
+    go : (t : Bool) → ltb byte 243 ≡ t → Within (group_places (get_or kept_table (cond t byte 0) 0))
+    go true e = let l = ltb-true byte 243 e in rw (kept_at byte l, kept-places byte l) (divided_within byte (omega arith))
+    go false e = rw (kept_at 0 (omega arith), kept-places 0 (omega arith)) (divided_within 0 (omega arith))
 
-pub places-within : (by : TritsBy) {table : List ℕ} → table ≡ keptTable → (byte : ℕ) → byte < 256 → Within (places_by by table byte)
+pub places-within : (by : TritsBy) {table : List ℕ} → table ≡ kept_table → (byte : ℕ) → byte < 256 → Within (places_by by table byte)
 unfolding places_by
 places-within Table e byte h = rw e (table-within byte)
-places-within Division e byte h = divided-within byte h
+places-within Division e byte h = divided_within byte h

@@ -13,10 +13,10 @@ pub record Cut {A : Type 0} (z : A) (pairs : List A) (base each : ℕ) : Type 0 
   pub paired : Paired base z pairs
 
 -- The base of the digits, and how many of them a word has.
-abbrev pub digitBase : Width → ℕ
-digitBase Bits = 2
-digitBase Groups = 4
+abbrev pub digit_base : Width → ℕ
+digit_base Bits = 2
+digit_base Groups = 4
 
-abbrev pub digitsAWord : Width → ℕ
-digitsAWord Bits = 32
-digitsAWord Groups = 16
+abbrev pub digits_aWord : Width → ℕ
+digits_aWord Bits = 32
+digits_aWord Groups = 16

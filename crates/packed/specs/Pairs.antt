@@ -12,23 +12,23 @@ rows_of [] lows = []
 rows_of (high ∷ highs) lows = row_of high lows ++ rows_of highs lows
 
 -- The table of pairs of a table of values: the pair of two digits is what both stand for, the low digit first.
-abbrev pub pairsOf : {A : Type 0} → List A → List A
-pairsOf values = rows_of values values
+abbrev pub pairs_of : {A : Type 0} → List A → List A
+pairs_of values = rows_of values values
 
 -- What a digit stands for: the first of its pair with a high digit 0; z past the table's end.
-abbrev pub digitValue : {A : Type 0} → A → List A → ℕ → A
-digitValue z pairs d = get_or pairs (d * 2) z
+abbrev pub digit_value : {A : Type 0} → A → List A → ℕ → A
+digit_value z pairs d = get_or pairs (d * 2) z
 
-abbrev pub digitValues : {A : Type 0} → A → List A → List ℕ → List A
-digitValues z pairs ds = map (digitValue z pairs) ds
+abbrev pub digit_values : {A : Type 0} → A → List A → List ℕ → List A
+digit_values z pairs ds = map (digit_value z pairs) ds
 
 -- A table of pairs of digits below a base.
 pub record Paired {A : Type 0} (base : ℕ) (z : A) (pairs : List A) : Type 0 where
   pub positive : 0 < base
   pub sized : length pairs ≡ base * base * 2
-  pub low : (q : ℕ) → q < base * base → get_or pairs (q * 2) z ≡ digitValue z pairs (q % base)
-  pub high : (q : ℕ) → q < base * base → get_or pairs (q * 2 + 1) z ≡ digitValue z pairs (q / base)
+  pub low : (q : ℕ) → q < base * base → get_or pairs (q * 2) z ≡ digit_value z pairs (q % base)
+  pub high : (q : ℕ) → q < base * base → get_or pairs (q * 2 + 1) z ≡ digit_value z pairs (q / base)
 
 -- The output with the pair stored that stands at i.
-abbrev pub pairSet : {A : Type 0} → A → List A → List A → ℕ → ℕ → List A
-pairSet z pairs out at i = set (set out at (get_or pairs i z)) (at + 1) (get_or pairs (i + 1) z)
+abbrev pub pair_set : {A : Type 0} → A → List A → List A → ℕ → ℕ → List A
+pair_set z pairs out at i = set (set out at (get_or pairs i z)) (at + 1) (get_or pairs (i + 1) z)

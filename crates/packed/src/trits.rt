@@ -1,6 +1,6 @@
 // The table of trits (02 [5]), and where the trits of a byte stand in a table of pairs: by that table, or by division.
 ghost use Rattle.std.specs.Prelude.{◌≡◌};
-ghost use Rattle.packed.specs.TritTable.{keptTable, TableRule, places_by};
+ghost use Rattle.packed.specs.TritTable.{kept_table, TableRule, places_by};
 
 use crate::bytes::ACCEPTED;
 
@@ -269,7 +269,7 @@ const TRITS: TritTable = [
 
 // The table, for a draw to look into.
 pub fn trit_table() -> TritTable
-    ensures value { result ≡ keptTable }
+    ensures value { result ≡ kept_table }
     ensures table_rule { TableRule result }
 {
     TRITS

@@ -1,13 +1,13 @@
 // The loops that store, two digits at a time by a table of pairs. The output and the words may overlap for all the compiler knows: what is read stands in a local first.
 ghost use Rattle.std.specs.Prelude.{◌≡◌, [], ◌∷◌, ◌+◌, ◌*◌, ◌-◌, ◌/◌, ◌<◌, ◌≤◌, length, take, drop};
 ghost use Rattle.std.proofs.Math.Seq.{paste};
-ghost use Rattle.distr.specs.Words.{mapRead};
+ghost use Rattle.distr.specs.Words.{map_read};
 ghost use Rattle.distr.specs.Packed.{digits, split};
 ghost use Rattle.distr.specs.UniformTernary.{bytes};
 ghost use Rattle.output_i64.specs.Out.{zero};
-ghost use Rattle.packed.specs.Pairs.{digitValues, Paired, pairSet};
-ghost use Rattle.packed.specs.Cutting.{Cut, digitBase, digitsAWord};
-ghost use Rattle.packed.specs.Trits.{TritTables, BytesStored, Looked, bytesLooked, tritsFrom, reading};
+ghost use Rattle.packed.specs.Pairs.{digit_values, Paired, pair_set};
+ghost use Rattle.packed.specs.Cutting.{Cut, digit_base, digits_aWord};
+ghost use Rattle.packed.specs.Trits.{TritTables, BytesStored, Looked, bytes_looked, trits_from, reading};
 
 use crate::Out;
 use packed::bytes::{ACCEPTED, Ended, WordsStored};
@@ -17,7 +17,7 @@ use packed::width::Width;
 // Stores the two numbers of the pair that stands at i, at `at` and after it.
 fn store_pair(output: &mut [Out], at: usize, pairs: &[Out], i: usize)
     requires { (at + 2 ≤ length output.old) × (i + 2 ≤ length pairs.now) }
-    ensures { output.new ≡ pairSet zero pairs.now output.old at i }
+    ensures { output.new ≡ pair_set zero pairs.now output.old at i }
 {
     let first = pairs[i];
     let second = pairs[i + 1];
@@ -28,7 +28,7 @@ fn store_pair(output: &mut [Out], at: usize, pairs: &[Out], i: usize)
 // The digits of a word in a base, two a turn. Each caller has a base and a count of its own that are constants, so no turn divides.
 fn store_digits(output: &mut [Out], at: usize, pairs: &[Out], base: u32, each: usize, word: u32)
     requires { (at + «each» ≤ length output.old) × Cut zero pairs.now base «each» }
-    ensures { output.new ≡ paste output.old at (digitValues zero pairs.now (digits base «each» word)) «each» }
+    ensures { output.new ≡ paste output.old at (digit_values zero pairs.now (digits base «each» word)) «each» }
 {
     let square = base * base;
     let mut x = word;
@@ -52,7 +52,7 @@ fn store_trits(
 )
     requires { (at + 5 ≤ length output.old) × (byte < 256) × TritTables zero pairs.now groups.now }
     ensures { (take at output.new ≡ take at output.old)
-        × (byte < 243 → output.new ≡ paste output.old at (digitValues zero pairs.now (digits 3 5 byte)) 5) }
+        × (byte < 243 → output.new ≡ paste output.old at (digit_values zero pairs.now (digits 3 5 byte)) 5) }
 {
     let places = places_of(by, groups, byte as u8);
     let i = places.last;
@@ -125,7 +125,7 @@ fn fill_digits(
 )
     requires { (place ≤ length words.now) × (length output.old ≤ (length words.now - place) * «each») × Cut zero pairs.now base «each» }
     ensures { output.new
-        ≡ digitValues zero pairs.now (take (length output.old) (split base «each» (drop place words.now))) }
+        ≡ digit_values zero pairs.now (take (length output.old) (split base «each» (drop place words.now))) }
 {
     let n = output.len();
     let end = place + n / each;
@@ -153,10 +153,10 @@ pub(crate) fn fill_words(
     words: &[u32],
     place: usize,
 )
-    requires { (place ≤ length words.now) × (length output.old ≤ (length words.now - place) * digitsAWord width)
-        × Paired (digitBase width) zero pairs.now }
-    ensures { output.new ≡ digitValues zero pairs.now
-        (take (length output.old) (split (digitBase width) (digitsAWord width) (drop place words.now))) }
+    requires { (place ≤ length words.now) × (length output.old ≤ (length words.now - place) * digits_aWord width)
+        × Paired (digit_base width) zero pairs.now }
+    ensures { output.new ≡ digit_values zero pairs.now
+        (take (length output.old) (split (digit_base width) (digits_aWord width) (drop place words.now))) }
 {
     match width {
         Width::Bits => fill_digits(output, pairs, 2, 32, words, place),
@@ -176,10 +176,10 @@ fn store_words(
 ) -> WordsStored
     requires { (place ≤ length words.now) × TritTables zero pairs.now groups.now }
     ensures at_in_bounds { (result.at ≤ length output.new) × (result.place ≤ length words.now)
-        × (tritsFrom zero pairs.now output.new result.at (drop result.place words.now)
-        ≡ tritsFrom zero pairs.now output.old 0 (drop place words.now)) }
-    ensures place_value { bytesLooked (drop place words.now) (length output.old) + 4 * place
-        ≡ bytesLooked (drop result.place words.now) (length output.new - result.at) + 4 * result.place }
+        × (trits_from zero pairs.now output.new result.at (drop result.place words.now)
+        ≡ trits_from zero pairs.now output.old 0 (drop place words.now)) }
+    ensures place_value { bytes_looked (drop place words.now) (length output.old) + 4 * place
+        ≡ bytes_looked (drop result.place words.now) (length output.new - result.at) + 4 * result.place }
 {
     let n = output.len();
     let count = words.len();
@@ -214,7 +214,7 @@ fn fill_bytes(
     requires { (from ≤ length output.old) × (place ≤ length words.now) × TritTables zero pairs.now groups.now }
     ensures place_in_bounds { (result.place ≤ length words.now)
         × (reading result output.new words.now
-        ≡ tritsFrom zero pairs.now output.old from (drop place words.now)) }
+        ≡ trits_from zero pairs.now output.old from (drop place words.now)) }
     ensures looked { Looked result words.now place (length output.old - from) }
 {
     let n = output.len();
@@ -271,7 +271,7 @@ pub(crate) fn fill_trits(
     requires { (place ≤ length words.now) × TritTables zero pairs.now groups.now }
     ensures place_in_bounds { (result.place ≤ length words.now)
         × (reading result output.new words.now
-        ≡ mapRead (λ ds. digitValues zero pairs.now (take (length output.old) (split 3 5 ds)))
+        ≡ map_read (λ ds. digit_values zero pairs.now (take (length output.old) (split 3 5 ds)))
         (bytes (drop place words.now) ((length output.old + 4) / 5))) }
     ensures looked { Looked result words.now place (length output.old) }
 {

@@ -1,7 +1,7 @@
 // Binary values straight from the words.
 ghost use Rattle.std.specs.Prelude.{◌≡◌, length, drop};
-ghost use Rattle.distr.specs.Packed.{uniformBinary};
-ghost use Rattle.distr.specs.Draw.{outcome, ruleDraw};
+ghost use Rattle.distr.specs.Packed.{uniform_binary};
+ghost use Rattle.distr.specs.Draw.{outcome, rule_draw};
 ghost use Rattle.distr.specs.Answers.{sums, reported};
 ghost use Rattle.output_u64.specs.Out.{held};
 
@@ -17,8 +17,8 @@ pub fn sample_uniform_binary_values_to(
     words: &[u32],
     place: usize,
 ) -> Answer
-    ensures output_after { outcome result output.new ≡ ruleDraw (held encoding) 0 (uniformBinary (length output.old)) words.now place output.old }
-    ensures result_value { sums result ≡ reported result.number ((uniformBinary (length output.old)).skips (drop place words.now)) }
+    ensures output_after { outcome result output.new ≡ rule_draw (held encoding) 0 (uniform_binary (length output.old)) words.now place output.old }
+    ensures result_value { sums result ≡ reported result.number ((uniform_binary (length output.old)).skips (drop place words.now)) }
 {
     let pairs = pairs::bits(0, 1);
     let words_needed = needed::binary_words(output.len());

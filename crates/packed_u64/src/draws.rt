@@ -4,8 +4,8 @@ ghost use Rattle.distr.specs.Draw.{outcome};
 ghost use Rattle.distr.specs.Answers.{sums};
 ghost use Rattle.distr.specs.Skipped.{nothing};
 ghost use Rattle.output_u64.specs.Out.{zero};
-ghost use Rattle.packed.specs.Pairs.{digitValue, Paired};
-ghost use Rattle.packed.specs.Cutting.{digitBase, digitsAWord};
+ghost use Rattle.packed.specs.Pairs.{digit_value, Paired};
+ghost use Rattle.packed.specs.Cutting.{digit_base, digits_aWord};
 ghost use Rattle.packed.specs.Tabled.{DrawsByTable};
 
 use crate::{Out, clear, stores};
@@ -22,8 +22,8 @@ pub(crate) fn draw(
     words: &[u32],
     place: usize,
 ) -> Answer
-    requires { Paired (digitBase width) zero pairs.now × (length output.old ≤ words_needed * digitsAWord width) }
-    ensures draws_by_table { DrawsByTable zero (digitValue zero pairs.now) (digitBase width) (digitsAWord width) words_needed
+    requires { Paired (digit_base width) zero pairs.now × (length output.old ≤ words_needed * digits_aWord width) }
+    ensures draws_by_table { DrawsByTable zero (digit_value zero pairs.now) (digit_base width) (digits_aWord width) words_needed
         words.now place output.old (outcome result output.new) }
     ensures result_value { sums result ≡ nothing }
 {

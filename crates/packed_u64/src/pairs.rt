@@ -1,20 +1,20 @@
 // Tables of pairs: what two digits stand for, side by side, for each two digits of a base. The low digit runs
 // first; what it stands for comes first.
 ghost use Rattle.std.specs.Prelude.{◌≡◌, [], ◌∷◌};
-ghost use Rattle.packed.specs.Pairs.{pairsOf};
+ghost use Rattle.packed.specs.Pairs.{pairs_of};
 
 use crate::Out;
 
 // Pairs of bits.
 pub(crate) fn bits(a: Out, b: Out) -> [Out; 8]
-    ensures { result ≡ pairsOf (a ∷ b ∷ []) }
+    ensures { result ≡ pairs_of (a ∷ b ∷ []) }
 {
     [a, a, b, a, a, b, b, b]
 }
 
 // Pairs of two-bit groups.
 pub(crate) fn groups(a: Out, b: Out, c: Out, d: Out) -> [Out; 32]
-    ensures { result ≡ pairsOf (a ∷ b ∷ c ∷ d ∷ []) }
+    ensures { result ≡ pairs_of (a ∷ b ∷ c ∷ d ∷ []) }
 {
     [
         a, a, b, a, c, a, d, a, a, b, b, b, c, b, d, b, a, c, b, c, c, c, d, c, a, d, b, d, c, d,
@@ -24,7 +24,7 @@ pub(crate) fn groups(a: Out, b: Out, c: Out, d: Out) -> [Out; 32]
 
 // Pairs of trits.
 pub(crate) fn trits(a: Out, b: Out, c: Out) -> [Out; 18]
-    ensures { result ≡ pairsOf (a ∷ b ∷ c ∷ []) }
+    ensures { result ≡ pairs_of (a ∷ b ∷ c ∷ []) }
 {
     [a, a, b, a, c, a, a, b, b, b, c, b, a, c, b, c, c, c]
 }

@@ -1,8 +1,8 @@
 // Ternary values straight from the words; the encoding says how −1 is held.
 ghost use Rattle.std.specs.Prelude.{◌≡◌, length, drop};
-ghost use Rattle.distr.specs.Packed.{sparseTernary, signsAlone};
-ghost use Rattle.distr.specs.UniformTernary.{uniformTernary};
-ghost use Rattle.distr.specs.Draw.{outcome, ruleDraw};
+ghost use Rattle.distr.specs.Packed.{sparse_ternary, signs_alone};
+ghost use Rattle.distr.specs.UniformTernary.{uniform_ternary};
+ghost use Rattle.distr.specs.Draw.{outcome, rule_draw};
 ghost use Rattle.distr.specs.Answers.{sums, reported};
 ghost use Rattle.output_u64.specs.Out.{held};
 
@@ -21,8 +21,8 @@ pub fn sample_sparse_ternary_values_to(
     words: &[u32],
     place: usize,
 ) -> Answer
-    ensures output_after { outcome result output.new ≡ ruleDraw (held encoding) 0 (sparseTernary (length output.old)) words.now place output.old }
-    ensures result_value { sums result ≡ reported result.number ((sparseTernary (length output.old)).skips (drop place words.now)) }
+    ensures output_after { outcome result output.new ≡ rule_draw (held encoding) 0 (sparse_ternary (length output.old)) words.now place output.old }
+    ensures result_value { sums result ≡ reported result.number ((sparse_ternary (length output.old)).skips (drop place words.now)) }
 {
     let pairs = pairs::groups(0, 0, 1, minus_one(encoding));
     let words_needed = needed::sparse_words(output.len());
@@ -38,8 +38,8 @@ fn draw_uniform_ternary(
     words: &[u32],
     place: usize,
 ) -> Answer
-    ensures output_after { outcome result output.new ≡ ruleDraw (held encoding) 0 (uniformTernary (length output.old)) words.now place output.old }
-    ensures result_value { sums result ≡ reported result.number ((uniformTernary (length output.old)).skips (drop place words.now)) }
+    ensures output_after { outcome result output.new ≡ rule_draw (held encoding) 0 (uniform_ternary (length output.old)) words.now place output.old }
+    ensures result_value { sums result ≡ reported result.number ((uniform_ternary (length output.old)).skips (drop place words.now)) }
 {
     let n = output.len();
     let number = numbers::draw_number(words.len(), place, n, 0);
@@ -67,8 +67,8 @@ pub fn sample_uniform_ternary_values_to(
     words: &[u32],
     place: usize,
 ) -> Answer
-    ensures output_after { outcome result output.new ≡ ruleDraw (held encoding) 0 (uniformTernary (length output.old)) words.now place output.old }
-    ensures result_value { sums result ≡ reported result.number ((uniformTernary (length output.old)).skips (drop place words.now)) }
+    ensures output_after { outcome result output.new ≡ rule_draw (held encoding) 0 (uniform_ternary (length output.old)) words.now place output.old }
+    ensures result_value { sums result ≡ reported result.number ((uniform_ternary (length output.old)).skips (drop place words.now)) }
 {
     draw_uniform_ternary(output, encoding, TritsBy::Table, words, place)
 }
@@ -80,8 +80,8 @@ pub fn sample_uniform_ternary_values_by_division_to(
     words: &[u32],
     place: usize,
 ) -> Answer
-    ensures output_after { outcome result output.new ≡ ruleDraw (held encoding) 0 (uniformTernary (length output.old)) words.now place output.old }
-    ensures result_value { sums result ≡ reported result.number ((uniformTernary (length output.old)).skips (drop place words.now)) }
+    ensures output_after { outcome result output.new ≡ rule_draw (held encoding) 0 (uniform_ternary (length output.old)) words.now place output.old }
+    ensures result_value { sums result ≡ reported result.number ((uniform_ternary (length output.old)).skips (drop place words.now)) }
 {
     draw_uniform_ternary(output, encoding, TritsBy::Division, words, place)
 }
@@ -93,8 +93,8 @@ pub fn sample_signs_to(
     words: &[u32],
     place: usize,
 ) -> Answer
-    ensures output_after { outcome result output.new ≡ ruleDraw (held encoding) 0 (signsAlone (length output.old)) words.now place output.old }
-    ensures result_value { sums result ≡ reported result.number ((signsAlone (length output.old)).skips (drop place words.now)) }
+    ensures output_after { outcome result output.new ≡ rule_draw (held encoding) 0 (signs_alone (length output.old)) words.now place output.old }
+    ensures result_value { sums result ≡ reported result.number ((signs_alone (length output.old)).skips (drop place words.now)) }
 {
     let pairs = pairs::bits(minus_one(encoding), 1);
     let words_needed = needed::sign_words(output.len());

@@ -14,10 +14,10 @@ use lib.IntN.{pos, ◌-ℤ◌}
 use lib.Arith.{digits_div, digits_mod}
 use lib.Pow.{pow-add, pow_pos, shr-shr, split, mod-mod-pow, pow_mono}
 use lib.Bits.{bit_and, and_mask, and_block}
-use Rattle.distr.specs.SamplePolyCbd.{bit_of, sum_to, firstBits, secondBits, modulo}
-use Rattle.distr.proofs.Differences.{minus_pos, minus-neg}
-use Rattle.distr.proofs.Tabulating.{sumTo-ext}
-use Rattle.poly_cbd.specs.Coefficient.{HoldsBits, bothSums}
+use Rattle.distr.specs.SamplePolyCbd.{bit_of, sum_to, first_bits, second_bits, modulo}
+use Rattle.distr.proofs.Differences.{minus_pos, minus_neg}
+use Rattle.distr.proofs.Tabulating.{sum_to_ext}
+use Rattle.poly_cbd.specs.Coefficient.{HoldsBits, both_sums}
 
 -- eta is small, and the bits of 256 coefficients are those of its bytes
 pub small : (eta : ℕ) → (eta ≡ 2) ⊎ (eta ≡ 3) → (2 ≤ eta) × (eta ≤ 3)
@@ -90,30 +90,30 @@ pub mask_fits : (eta : ℕ) → eta ≤ 3 → (2 ^ eta ≤ 8) × (1 * 2 ^ eta % 
 mask_fits eta h = let p : 2 ^ eta ≤ 8 = pow_mono {i = eta} {j = 3} h in (p, omega arith)
 
 -- after n turns
-abbrev pub sumsAfter : ℕ → ℕ → ℕ → ℕ
-sumsAfter eta bits n = sum_to n (λ j. bits / 2 ^ j % 2) + sum_to n (λ j. bits / 2 ^ (eta + j) % 2) * 2 ^ eta
+abbrev pub sums_after : ℕ → ℕ → ℕ → ℕ
+sums_after eta bits n = sum_to n (λ j. bits / 2 ^ j % 2) + sum_to n (λ j. bits / 2 ^ (eta + j) % 2) * 2 ^ eta
 
 -- a turn more
-pub one_more : (eta bits n : ℕ) → 1 ≤ eta → sumsAfter eta bits n + bit_and (bits / 2 ^ n) (2 ^ eta + 1) ≡ sumsAfter eta bits (suc n)
+pub one_more : (eta bits n : ℕ) → 1 ≤ eta → sums_after eta bits n + bit_and (bits / 2 ^ n) (2 ^ eta + 1) ≡ sums_after eta bits (suc n)
 unfolding sum_to
 one_more eta bits n h =
     let next : bits / 2 ^ n / 2 ^ eta ≡ bits / 2 ^ (eta + n) = shr-shr bits n eta ∙ ap (λ k. bits / 2 ^ k) (omega arith) in
-    ap (λ k. sumsAfter eta bits n + k) (both_ends (bits / 2 ^ n) eta h ∙ ap (λ k. bits / 2 ^ n % 2 + k % 2 * 2 ^ eta) next)
+    ap (λ k. sums_after eta bits n + k) (both_ends (bits / 2 ^ n) eta h ∙ ap (λ k. bits / 2 ^ n % 2 + k % 2 * 2 ^ eta) next)
     ∙ ring (sum_to n (λ j. bits / 2 ^ j % 2)) (sum_to n (λ j. bits / 2 ^ (eta + j) % 2)) (bits / 2 ^ n % 2) (bits / 2 ^ (eta + n) % 2) (2 ^ eta)
   where
     ring : (a b c d p : ℕ) → a + b * p + (c + d * p) ≡ a + c + (b + d) * p
     ring a b c d p = omega arith
 
 -- after none
-pub no-turns : (eta bits : ℕ) → 0 ≡ sumsAfter eta bits 0
+pub no_turns : (eta bits : ℕ) → 0 ≡ sums_after eta bits 0
 unfolding sum_to
-no-turns eta bits = omega arith
+no_turns eta bits = omega arith
 
 -- a turn of the code
-pub turn : (eta bits n sums : ℕ) → n < eta → eta ≤ 3 → sums ≡ sumsAfter eta bits n
-    → sums + bit_and (bits / 2 ^ n) (1 * 2 ^ eta % 4294967296 + 1) ≡ sumsAfter eta bits (n + 1)
+pub turn : (eta bits n sums : ℕ) → n < eta → eta ≤ 3 → sums ≡ sums_after eta bits n
+    → sums + bit_and (bits / 2 ^ n) (1 * 2 ^ eta % 4294967296 + 1) ≡ sums_after eta bits (n + 1)
 turn eta bits n sums l h e =
-    ap₂ (λ a b. a + bit_and (bits / 2 ^ n) (b + 1)) e (mask_fits eta h).1 ∙ one_more eta bits n (omega arith) ∙ ap (sumsAfter eta bits) (sym (add-one n))
+    ap₂ (λ a b. a + bit_and (bits / 2 ^ n) (b + 1)) e (mask_fits eta h).1 ∙ one_more eta bits n (omega arith) ∙ ap (sums_after eta bits) (sym (add-one n))
 
 -- a sum of n bits is at most n
 few : (n : ℕ) (g : ℕ → ℕ) → sum_to n (λ j. g j % 2) ≤ n
@@ -122,7 +122,7 @@ few zero g = omega arith
 few (suc n) g = omega (arith, few n g)
 
 -- the sums of up to three bits each are small
-pub sums-small : (eta bits n : ℕ) → n ≤ 3 → eta ≤ 3 → sumsAfter eta bits n ≤ 27
+pub sums-small : (eta bits n : ℕ) → n ≤ 3 → eta ≤ 3 → sums_after eta bits n ≤ 27
 sums-small eta bits n h k =
     let low : sum_to n (λ j. bits / 2 ^ j % 2) ≤ n = few n (λ j. bits / 2 ^ j) in
     let high : sum_to n (λ j. bits / 2 ^ (eta + j) % 2) ≤ n = few n (λ j. bits / 2 ^ (eta + j)) in
@@ -135,13 +135,13 @@ sums-small eta bits n h k =
 
 -- what the code takes them apart into are the standard's x and y, and each is small
 pub record Apart (eta : ℕ) (B : List ℕ) (i sums : ℕ) : Type 0 where
-  pub x : bit_and sums (1 * 2 ^ eta % 4294967296 - 1) ≡ firstBits eta B i
-  pub y : sums / 2 ^ eta ≡ secondBits eta B i
-  pub x-small : firstBits eta B i ≤ 3
-  pub y-small : secondBits eta B i ≤ 3
+  pub x : bit_and sums (1 * 2 ^ eta % 4294967296 - 1) ≡ first_bits eta B i
+  pub y : sums / 2 ^ eta ≡ second_bits eta B i
+  pub x-small : first_bits eta B i ≤ 3
+  pub y-small : second_bits eta B i ≤ 3
 
 -- a sum of eta bits lies below 2^eta, so the two do not run into each other
-pub apart : (eta : ℕ) (B : List ℕ) (i bits sums : ℕ) → (eta ≡ 2) ⊎ (eta ≡ 3) → HoldsBits eta B i bits → sums ≡ bothSums eta bits → Apart eta B i sums
+pub apart : (eta : ℕ) (B : List ℕ) (i bits sums : ℕ) → (eta ≡ 2) ⊎ (eta ≡ 3) → HoldsBits eta B i bits → sums ≡ both_sums eta bits → Apart eta B i sums
 apart eta B i bits sums good holds e = record {
   x = rw ((mask_fits eta range.1).1, and_mask sums eta, e, add_comm low (high * 2 ^ eta)) (digits_mod high below ∙ first);
   y = rw (e, add_comm low (high * 2 ^ eta)) (digits_div high below ∙ second);
@@ -161,11 +161,11 @@ apart eta B i bits sums good holds e = record {
     below : low < 2 ^ eta
     below = omega (arith, few eta (λ j. bits / 2 ^ j), range, pow_mono {i = 2} {j = eta} range.0)
 
-    first : low ≡ firstBits eta B i
-    first = sumTo-ext eta _ _ (λ j l. holds j (omega arith))
+    first : low ≡ first_bits eta B i
+    first = sum_to_ext eta _ _ (λ j l. holds j (omega arith))
 
-    second : high ≡ secondBits eta B i
-    second = sumTo-ext eta _ _ (λ j l. holds (eta + j) (omega arith) ∙ ap (bit_of B) (sym (add_assoc (2 * i * eta) eta j)))
+    second : high ≡ second_bits eta B i
+    second = sum_to_ext eta _ _ (λ j l. holds (eta + j) (omega arith) ∙ ap (bit_of B) (sym (add_assoc (2 * i * eta) eta j)))
 
 -- x − y modulo q, from 0 on and below it
 pub modulo-pos : (q x y : ℕ) → y ≤ x → x < q → x - y ≡ modulo q (pos x -ℤ pos y)
@@ -174,4 +174,4 @@ modulo-pos q x y h k = rw (minus_pos x y h) (sym (mod-eq_of_lt (omega arith)))
 pub modulo-neg : (q x y : ℕ) → x < y → y ≤ q → q + x - y ≡ modulo q (pos x -ℤ pos y)
 modulo-neg q x y h k =
     let m : (y - x - 1) % q ≡ y - x - 1 = mod-eq_of_lt (omega arith) in
-    rw (minus-neg x y h, m) (omega arith)
+    rw (minus_neg x y h, m) (omega arith)

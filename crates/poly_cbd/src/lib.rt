@@ -2,8 +2,8 @@
 mod coefficient;
 
 ghost use Rattle.std.specs.Prelude.{◌≡◌, length};
-ghost use Rattle.distr.specs.Constants.{cbdCoefficients};
-ghost use Rattle.distr.specs.SamplePolyCbd.{cbdNumber, polynomialOf, samplePolyCbd};
+ghost use Rattle.distr.specs.Constants.{cbd_coefficients};
+ghost use Rattle.distr.specs.SamplePolyCbd.{cbd_number, polynomial_of, sample_poly_cbd};
 ghost use Rattle.poly_cbd.specs.Coefficient.{GoodBytes};
 
 use coefficient::coefficient;
@@ -14,7 +14,7 @@ const N: usize = 256;
 
 // What refuses a call: 27, then 28. That 64 * eta fits is known once eta is.
 fn cbd_number(eta: u32, byte_length: usize, output_length: usize) -> u32
-    ensures { result ≡ cbdNumber eta byte_length output_length }
+    ensures { result ≡ cbd_number eta byte_length output_length }
 {
     if !((eta == 2) | (eta == 3)) {
         return INVALID_CBD_ETA;
@@ -27,8 +27,8 @@ fn cbd_number(eta: u32, byte_length: usize, output_length: usize) -> u32
 
 // Every coefficient, in the standard's order.
 fn fill(output: &mut [u64], eta: u32, bytes: &[u8])
-    requires { GoodBytes eta (length bytes.now) × (length output.old ≡ cbdCoefficients) }
-    ensures { output.new ≡ polynomialOf eta bytes.now }
+    requires { GoodBytes eta (length bytes.now) × (length output.old ≡ cbd_coefficients) }
+    ensures { output.new ≡ polynomial_of eta bytes.now }
 {
     let mut i = 0;
     while i < N {
@@ -40,7 +40,7 @@ fn fill(output: &mut [u64], eta: u32, bytes: &[u8])
 // A polynomial of 256 coefficients modulo 3329 from 64 * eta bytes, for eta 2 and 3. A refusal, 27 or 28, writes nothing. Each eta has a loop in
 // which it is a constant.
 pub fn sample_poly_cbd(output: &mut [u64], eta: u32, bytes: &[u8]) -> u32
-    ensures { (result, output.new) ≡ samplePolyCbd eta bytes.now output.old }
+    ensures { (result, output.new) ≡ sample_poly_cbd eta bytes.now output.old }
 {
     let number = cbd_number(eta, bytes.len(), output.len());
     if number != 0 {

@@ -9,7 +9,7 @@ use Rattle.distr.specs.declared.answer.Answer.{Answer}
 use Rattle.distr.specs.declared.secret_key_distr.BlockOccupancy.{BlockOccupancy}
 use Rattle.distr.specs.declared.secret_key_distr.BlockOccupancy.TheVariants.{AtMostOne, ExactlyOne}
 use Rattle.distr.specs.Answers.{refusal, sums, reported}
-use Rattle.distr.specs.Constants.{neverMade}
+use Rattle.distr.specs.Constants.{never_made}
 use Rattle.distr.specs.Distribution.{Tables}
 use Rattle.distr.specs.Draw.{Outcome, outcome}
 use Rattle.ternary.specs.declared.ternary.TernaryValue.TheVariants.{MinusOne, Zero, One}
@@ -17,35 +17,35 @@ use Rattle.ternary.specs.declared.ternary.TernaryEnds.{TernaryEnds}
 use Rattle.ternary.specs.declared.ternary.TernaryEnds.TheVariants.{Constant, Nonzero, General}
 use Rattle.methods.specs.declared.SamplingMethod.{SamplingMethod}
 use Rattle.methods.specs.declared.SamplingMethod.TheVariants.{Ternary, BlockBinary}
-use Rattle.methods.specs.Keys.{isServed}
-use Rattle.distr.proofs.Skipping.{reports-refused}
-use Rattle.method_draws.specs.Drawing.{methodDraw, methodSkips}
-use Rattle.prepared_draws.specs.Drawing.{asNative, rowDraw}
+use Rattle.methods.specs.Keys.{is_served}
+use Rattle.distr.proofs.Skipping.{reports_refused}
+use Rattle.method_draws.specs.Drawing.{method_draw, method_skips}
+use Rattle.prepared_draws.specs.Drawing.{as_native, row_draw}
 
 -- the ternary methods are none of the two
-pub ternary-apart : (s : TernaryEnds) → isServed (Ternary s) ≡ false
-ternary-apart (Constant MinusOne) = refl
-ternary-apart (Constant Zero) = refl
-ternary-apart (Constant One) = refl
-ternary-apart (Nonzero N) = refl
-ternary-apart (General N E) = refl
+pub ternary_apart : (s : TernaryEnds) → is_served (Ternary s) ≡ false
+ternary_apart (Constant MinusOne) = refl
+ternary_apart (Constant Zero) = refl
+ternary_apart (Constant One) = refl
+ternary_apart (Nonzero N) = refl
+ternary_apart (General N E) = refl
 
-pub blocks-apart : (size : ℕ) (occupancy : BlockOccupancy) → isServed (BlockBinary size occupancy) ≡ false
-blocks-apart size AtMostOne = refl
-blocks-apart size ExactlyOne = refl
+pub blocks_apart : (size : ℕ) (occupancy : BlockOccupancy) → is_served (BlockBinary size occupancy) ≡ false
+blocks_apart size AtMostOne = refl
+blocks_apart size ExactlyOne = refl
 
 -- a method that was found to be m
 module _ (tables : Tables) (words : List ℕ) (place : ℕ) (out : List ℕ) {m method : SamplingMethod} where
-  row_apart : isServed m ≡ false → method ≡ m → {a : Answer} → a ≡ refusal neverMade place → outcome a out ≡ rowDraw method tables words place out
-  unfolding rowDraw
+  row_apart : is_served m ≡ false → method ≡ m → {a : Answer} → a ≡ refusal never_made place → outcome a out ≡ row_draw method tables words place out
+  unfolding row_draw
   row_apart h e f = rw (e, f, h)
 
   -- a row that is refused reports nothing skipped
-  pub row-refused : isServed m ≡ false → method ≡ m → {a : Answer} → a ≡ refusal neverMade place
-      → (outcome a out ≡ rowDraw method tables words place out) × (sums a ≡ reported a.number (methodSkips method tables (length out) (drop place words)))
-  row-refused h e f = (row_apart h e f, reports-refused _ (λ z. omega arith) f)
+  pub row-refused : is_served m ≡ false → method ≡ m → {a : Answer} → a ≡ refusal never_made place
+      → (outcome a out ≡ row_draw method tables words place out) × (sums a ≡ reported a.number (method_skips method tables (length out) (drop place words)))
+  row-refused h e f = (row_apart h e f, reports_refused _ (λ z. omega arith) f)
 
-  pub row-served : isServed m ≡ true → method ≡ m → {o : Outcome ℕ} → o ≡ methodDraw asNative method tables words place out
-      → o ≡ rowDraw method tables words place out
-  unfolding rowDraw
-  row-served h e f = f ∙ rw (e, h)
+  pub row_served : is_served m ≡ true → method ≡ m → {o : Outcome ℕ} → o ≡ method_draw as_native method tables words place out
+      → o ≡ row_draw method tables words place out
+  unfolding row_draw
+  row_served h e f = f ∙ rw (e, h)

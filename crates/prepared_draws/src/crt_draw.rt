@@ -2,10 +2,10 @@
 ghost use Rattle.std.specs.Prelude.{◌≡◌, length, drop};
 ghost use Rattle.distr.specs.Draw.{outcome};
 ghost use Rattle.distr.specs.Answers.{sums, reported};
-ghost use Rattle.method_draws.specs.Drawing.{methodSkips};
+ghost use Rattle.method_draws.specs.Drawing.{method_skips};
 ghost use Rattle.methods.specs.declared.SamplingMethod.{SamplingMethod};
 ghost use Rattle.signed_discrete_gaussian.specs.Lent.{lent};
-ghost use Rattle.prepared_draws.specs.Drawing.{preparedDraw, crtNumber, rowDraw, crtBy, crtSkipsBy};
+ghost use Rattle.prepared_draws.specs.Drawing.{prepared_draw, crt_number, row_draw, crt_by, crt_skips_by};
 
 use cdt_u64::sample_cdt_to;
 use centered_binomial_u64::draw::sample_binomial_to as sample_binomial;
@@ -26,7 +26,7 @@ fn crt_draw_number(
     coefficient_count: usize,
     moduli: &[u64],
 ) -> u32
-    ensures { result ≡ crtNumber method words place n coefficient_count moduli.now }
+    ensures { result ≡ crt_number method words place n coefficient_count moduli.now }
 {
     if !is_served(method) {
         return NEVER_MADE;
@@ -47,9 +47,9 @@ fn draw_row(
     place: usize,
 ) -> Answer
     ensures output_after { outcome result output.new ≡
-        rowDraw method (lent bounds.now endpoints.now heights.now curve.now)
+        row_draw method (lent bounds.now endpoints.now heights.now curve.now)
         words.now place output.old }
-    ensures result_value { sums result ≡ reported result.number (methodSkips method (lent bounds.now endpoints.now heights.now curve.now) (length output.old) (drop place words.now)) }
+    ensures result_value { sums result ≡ reported result.number (method_skips method (lent bounds.now endpoints.now heights.now curve.now) (length output.old) (drop place words.now)) }
 {
     let native = Encoding {
         minus_one: 0xffff_ffff_ffff_ffff,
@@ -101,10 +101,10 @@ pub fn sample_crt_to(
     words: &[u32],
     place: usize,
 ) -> Answer
-    ensures output_after { outcome result output.new ≡ preparedDraw prepared place output.old (λ (m : SamplingMethod). crtBy m
+    ensures output_after { outcome result output.new ≡ prepared_draw prepared place output.old (λ (m : SamplingMethod). crt_by m
         (lent bounds.now endpoints.now heights.now curve.now)
         coefficient_count moduli.now words.now place output.old) }
-    ensures result_value { sums result ≡ reported result.number (crtSkipsBy prepared.method (lent bounds.now endpoints.now heights.now curve.now) coefficient_count (length output.old) (drop place words.now)) }
+    ensures result_value { sums result ≡ reported result.number (crt_skips_by prepared.method (lent bounds.now endpoints.now heights.now curve.now) coefficient_count (length output.old) (drop place words.now)) }
 {
     let refusal = prepared.number;
     if refusal != 0 {

@@ -3,10 +3,10 @@ ghost use Rattle.std.specs.Prelude.{◌≡◌, length, drop};
 ghost use Rattle.distr.specs.Numbers.{first_of};
 ghost use Rattle.distr.specs.Draw.{outcome};
 ghost use Rattle.distr.specs.Answers.{sums, reported};
-ghost use Rattle.method_draws.specs.Drawing.{methodSkips};
+ghost use Rattle.method_draws.specs.Drawing.{method_skips};
 ghost use Rattle.methods.specs.declared.SamplingMethod.{SamplingMethod};
 ghost use Rattle.signed_discrete_gaussian.specs.Lent.{lent};
-ghost use Rattle.prepared_draws.specs.Drawing.{preparedDraw, residueNumbers, encodedBy};
+ghost use Rattle.prepared_draws.specs.Drawing.{prepared_draw, residue_numbers, encoded_by};
 
 use distr::answer::{Answer, refused};
 use distr::refusal::MODULUS_ZERO;
@@ -26,7 +26,7 @@ pub struct ResidueMethod {
 // What refuses so many residues of a modulus: 7 or 8 for the length, 10 for a centered binomial's of 0, then 9 for a modulus that is not above the
 // largest magnitude; else 0.
 pub fn residue_number(method: SamplingMethod, length: usize, modulus: u64) -> u32
-    ensures { result ≡ first_of (residueNumbers method length modulus) }
+    ensures { result ≡ first_of (residue_numbers method length modulus) }
 {
     let number = length_number(method, length);
     if number != 0 {
@@ -50,10 +50,10 @@ pub fn sample_encoded_to(
     words: &[u32],
     place: usize,
 ) -> Answer
-    ensures output_after { outcome result output.new ≡ preparedDraw by.prepared place output.old (λ (m : SamplingMethod). encodedBy m
+    ensures output_after { outcome result output.new ≡ prepared_draw by.prepared place output.old (λ (m : SamplingMethod). encoded_by m
         (lent bounds.now endpoints.now heights.now curve.now)
         by.modulus words.now place output.old) }
-    ensures result_value { sums result ≡ reported result.number (methodSkips by.prepared.method (lent bounds.now endpoints.now heights.now curve.now) (length output.old) (drop place words.now)) }
+    ensures result_value { sums result ≡ reported result.number (method_skips by.prepared.method (lent bounds.now endpoints.now heights.now curve.now) (length output.old) (drop place words.now)) }
 {
     let prepared = by.prepared;
     let modulus = by.modulus;

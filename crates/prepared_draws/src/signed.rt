@@ -3,9 +3,9 @@ ghost use Rattle.std.specs.Prelude.{◌≡◌, length, drop};
 ghost use Rattle.distr.specs.Draw.{outcome};
 ghost use Rattle.distr.specs.Answers.{sums, reported};
 ghost use Rattle.methods.specs.declared.SamplingMethod.{SamplingMethod};
-ghost use Rattle.method_draws.specs.Drawing.{methodDraw, methodSkips};
+ghost use Rattle.method_draws.specs.Drawing.{method_draw, method_skips};
 ghost use Rattle.signed_discrete_gaussian.specs.Lent.{lent};
-ghost use Rattle.prepared_draws.specs.Drawing.{preparedDraw};
+ghost use Rattle.prepared_draws.specs.Drawing.{prepared_draw};
 
 use distr::answer::{Answer, refused};
 use method_draws_i64::sample_to_with;
@@ -23,10 +23,10 @@ pub fn sample_signed_to(
     words: &[u32],
     place: usize,
 ) -> Answer
-    ensures output_after { outcome result output.new ≡ preparedDraw prepared place output.old (λ (m : SamplingMethod). methodDraw (λ cs. cs) m
+    ensures output_after { outcome result output.new ≡ prepared_draw prepared place output.old (λ (m : SamplingMethod). method_draw (λ cs. cs) m
         (lent bounds.now endpoints.now heights.now curve.now)
         words.now place output.old) }
-    ensures result_value { sums result ≡ reported result.number (methodSkips prepared.method (lent bounds.now endpoints.now heights.now curve.now) (length output.old) (drop place words.now)) }
+    ensures result_value { sums result ≡ reported result.number (method_skips prepared.method (lent bounds.now endpoints.now heights.now curve.now) (length output.old) (drop place words.now)) }
 {
     let number = prepared.number;
     if number != 0 {

@@ -1,10 +1,10 @@
 // The centered binomial: a view of the error sampler of the distribution `CenteredBinomial`.
 ghost use Rattle.std.specs.Prelude.{◌≡◌, length, drop};
-ghost use Rattle.distr.specs.Distribution.{error, skipsOf};
-ghost use Rattle.distr.specs.Draw.{outcome, signedDraw, encodedDraw, noTables};
+ghost use Rattle.distr.specs.Distribution.{error, skips_of};
+ghost use Rattle.distr.specs.Draw.{outcome, signed_draw, encoded_draw, no_tables};
 ghost use Rattle.distr.specs.Answers.{sums, reported};
-ghost use Rattle.error_sampler.specs.Sampler.{isMade};
-ghost use Rattle.primus_distr.specs.Views.{makingBinomial, asBinomialError};
+ghost use Rattle.error_sampler.specs.Sampler.{is_made};
+ghost use Rattle.primus_distr.specs.Views.{making_binomial, as_binomial_error};
 
 use centered_binomial::CenteredBinomialParameters;
 use distr::answer::Answer;
@@ -27,7 +27,7 @@ pub struct MadeCenteredBinomial {
 
 // The same sampler of errors.
 fn as_error(sampler: CenteredBinomial) -> ErrorSampler
-    ensures { result ≡ asBinomialError sampler }
+    ensures { result ≡ as_binomial_error sampler }
 {
     let parameters = sampler.parameters;
     ErrorSampler {
@@ -41,7 +41,7 @@ fn as_error(sampler: CenteredBinomial) -> ErrorSampler
 impl CenteredBinomial {
     // Prepares a sampler: 4 for an eta outside 1 to 32.
     pub fn new(eta: u32) -> MadeCenteredBinomial
-        ensures { result ≡ makingBinomial eta }
+        ensures { result ≡ making_binomial eta }
     {
         let made = CenteredBinomialParameters::new(eta);
         let parameters = made.parameters;
@@ -60,9 +60,9 @@ impl CenteredBinomial {
 
     // Draws signed coefficients over the whole output. Numbers in order: 21, 22, 6, 23.
     pub fn sample_to(self, output: &mut [i64], words: &[u32], place: usize) -> Answer
-        ensures output_after { outcome result output.new ≡ signedDraw (isMade (asBinomialError self)) (error (asBinomialError self).distribution) noTables
+        ensures output_after { outcome result output.new ≡ signed_draw (is_made (as_binomial_error self)) (error (as_binomial_error self).distribution) no_tables
             words.now place output.old }
-        ensures result_value { sums result ≡ reported result.number (skipsOf (error (asBinomialError self).distribution) (length output.old) noTables (drop place words.now)) }
+        ensures result_value { sums result ≡ reported result.number (skips_of (error (as_binomial_error self).distribution) (length output.old) no_tables (drop place words.now)) }
     {
         let sampler = as_error(self);
         sampler.sample_signed_to(output, &[], &[], &[], &[], words, place)
@@ -76,9 +76,9 @@ impl CenteredBinomial {
         words: &[u32],
         place: usize,
     ) -> Answer
-        ensures output_after { outcome result output.new ≡ encodedDraw (isMade (asBinomialError self)) (error (asBinomialError self).distribution) noTables modulus
+        ensures output_after { outcome result output.new ≡ encoded_draw (is_made (as_binomial_error self)) (error (as_binomial_error self).distribution) no_tables modulus
             words.now place output.old }
-        ensures result_value { sums result ≡ reported result.number (skipsOf (error (asBinomialError self).distribution) (length output.old) noTables (drop place words.now)) }
+        ensures result_value { sums result ≡ reported result.number (skips_of (error (as_binomial_error self).distribution) (length output.old) no_tables (drop place words.now)) }
     {
         let sampler = as_error(self);
         sampler.sample_encoded_to(output, modulus, &[], &[], &[], &[], words, place)

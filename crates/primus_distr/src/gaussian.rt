@@ -1,11 +1,11 @@
 // The Gaussian over signed integers: a view of the error sampler of the distribution `Gaussian`.
 ghost use Rattle.std.specs.Prelude.{◌≡◌, length, drop};
-ghost use Rattle.distr.specs.Distribution.{error, skipsOf};
-ghost use Rattle.distr.specs.Draw.{outcome, signedDraw, encodedDraw};
+ghost use Rattle.distr.specs.Distribution.{error, skips_of};
+ghost use Rattle.distr.specs.Draw.{outcome, signed_draw, encoded_draw};
 ghost use Rattle.distr.specs.Answers.{sums, reported};
-ghost use Rattle.error_sampler.specs.Sampler.{isMade};
+ghost use Rattle.error_sampler.specs.Sampler.{is_made};
 ghost use Rattle.signed_discrete_gaussian.specs.Lent.{lent};
-ghost use Rattle.primus_distr.specs.Views.{makingGaussian, asError};
+ghost use Rattle.primus_distr.specs.Views.{making_gaussian, as_error};
 
 use distr::answer::Answer;
 use distr::error_distribution::ErrorDistribution;
@@ -28,7 +28,7 @@ pub struct MadeSignedDiscreteGaussian {
 
 // The same sampler of errors.
 fn as_error(sampler: SignedDiscreteGaussian) -> ErrorSampler
-    ensures { result ≡ asError sampler }
+    ensures { result ≡ as_error sampler }
 {
     let parameters = sampler.parameters;
     ErrorSampler {
@@ -42,7 +42,7 @@ fn as_error(sampler: SignedDiscreteGaussian) -> ErrorSampler
 impl SignedDiscreteGaussian {
     // Prepares a sampler: 2 for a deviation that is refused, 3 for a support above 4,095.
     pub fn new(standard_deviation: f64) -> MadeSignedDiscreteGaussian
-        ensures { result ≡ makingGaussian standard_deviation }
+        ensures { result ≡ making_gaussian standard_deviation }
     {
         let made = gaussian_core::parameters::new_parameters(standard_deviation);
         let parameters = made.parameters;
@@ -77,10 +77,10 @@ impl SignedDiscreteGaussian {
         words: &[u32],
         place: usize,
     ) -> Answer
-        ensures output_after { outcome result output.new ≡ signedDraw (isMade (asError self)) (error (asError self).distribution)
+        ensures output_after { outcome result output.new ≡ signed_draw (is_made (as_error self)) (error (as_error self).distribution)
             (lent bounds.now endpoints.now heights.now curve.now)
             words.now place output.old }
-        ensures result_value { sums result ≡ reported result.number (skipsOf (error (asError self).distribution) (length output.old) (lent bounds.now endpoints.now heights.now curve.now) (drop place words.now)) }
+        ensures result_value { sums result ≡ reported result.number (skips_of (error (as_error self).distribution) (length output.old) (lent bounds.now endpoints.now heights.now curve.now) (drop place words.now)) }
     {
         let sampler = as_error(self);
         sampler.sample_signed_to(output, bounds, endpoints, heights, curve, words, place)
@@ -98,10 +98,10 @@ impl SignedDiscreteGaussian {
         words: &[u32],
         place: usize,
     ) -> Answer
-        ensures output_after { outcome result output.new ≡ encodedDraw (isMade (asError self)) (error (asError self).distribution)
+        ensures output_after { outcome result output.new ≡ encoded_draw (is_made (as_error self)) (error (as_error self).distribution)
             (lent bounds.now endpoints.now heights.now curve.now) modulus
             words.now place output.old }
-        ensures result_value { sums result ≡ reported result.number (skipsOf (error (asError self).distribution) (length output.old) (lent bounds.now endpoints.now heights.now curve.now) (drop place words.now)) }
+        ensures result_value { sums result ≡ reported result.number (skips_of (error (as_error self).distribution) (length output.old) (lent bounds.now endpoints.now heights.now curve.now) (drop place words.now)) }
     {
         let sampler = as_error(self);
         sampler.sample_encoded_to(

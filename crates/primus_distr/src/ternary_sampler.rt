@@ -1,10 +1,10 @@
 // The ternary sampler of two probabilities: a view of the secret-key sampler of the distribution `Ternary`.
 ghost use Rattle.std.specs.Prelude.{◌≡◌, length, drop};
-ghost use Rattle.distr.specs.Distribution.{secret, skipsOf};
-ghost use Rattle.distr.specs.Draw.{outcome, signedDraw, encodedDraw, noTables};
+ghost use Rattle.distr.specs.Distribution.{secret, skips_of};
+ghost use Rattle.distr.specs.Draw.{outcome, signed_draw, encoded_draw, no_tables};
 ghost use Rattle.distr.specs.Answers.{sums, reported};
-ghost use Rattle.secret_key_sampler.specs.Sampler.{isMade};
-ghost use Rattle.primus_distr.specs.Views.{makingTernary, asKey};
+ghost use Rattle.secret_key_sampler.specs.Sampler.{is_made};
+ghost use Rattle.primus_distr.specs.Views.{making_ternary, as_key};
 
 use distr::answer::Answer;
 use distr::secret_key_distr::SecretKeyDistr;
@@ -29,7 +29,7 @@ pub struct MadeTernarySampler {
 
 // The same sampler of secret keys.
 fn as_key(sampler: TernarySampler) -> SecretKeySampler
-    ensures { result ≡ asKey sampler }
+    ensures { result ≡ as_key sampler }
 {
     let ends = sampler.ends;
     SecretKeySampler {
@@ -44,7 +44,7 @@ fn as_key(sampler: TernarySampler) -> SecretKeySampler
 impl TernarySampler {
     // Prepares a sampler: 1 where a probability is refused or the two exceed one. The empty sampler has other ends than its probabilities.
     pub fn try_new(negative_one_probability: f64, one_probability: f64) -> MadeTernarySampler
-        ensures { result ≡ makingTernary negative_one_probability one_probability }
+        ensures { result ≡ making_ternary negative_one_probability one_probability }
     {
         let number = probability::check_ternary_probabilities(
             negative_one_probability,
@@ -80,9 +80,9 @@ impl TernarySampler {
 
     // Draws signed coefficients over the whole output. Numbers in order: 21, 22, 6, 23.
     pub fn sample_signed_to(self, output: &mut [i64], words: &[u32], place: usize) -> Answer
-        ensures output_after { outcome result output.new ≡ signedDraw (isMade (asKey self)) (secret (asKey self).distr) noTables
+        ensures output_after { outcome result output.new ≡ signed_draw (is_made (as_key self)) (secret (as_key self).distr) no_tables
             words.now place output.old }
-        ensures result_value { sums result ≡ reported result.number (skipsOf (secret (asKey self).distr) (length output.old) noTables (drop place words.now)) }
+        ensures result_value { sums result ≡ reported result.number (skips_of (secret (as_key self).distr) (length output.old) no_tables (drop place words.now)) }
     {
         let sampler = as_key(self);
         sampler.sample_signed_to(output, &[], &[], &[], &[], words, place)
@@ -96,9 +96,9 @@ impl TernarySampler {
         words: &[u32],
         place: usize,
     ) -> Answer
-        ensures output_after { outcome result output.new ≡ encodedDraw (isMade (asKey self)) (secret (asKey self).distr) noTables modulus
+        ensures output_after { outcome result output.new ≡ encoded_draw (is_made (as_key self)) (secret (as_key self).distr) no_tables modulus
             words.now place output.old }
-        ensures result_value { sums result ≡ reported result.number (skipsOf (secret (asKey self).distr) (length output.old) noTables (drop place words.now)) }
+        ensures result_value { sums result ≡ reported result.number (skips_of (secret (as_key self).distr) (length output.old) no_tables (drop place words.now)) }
     {
         let sampler = as_key(self);
         sampler.sample_encoded_to(output, modulus, &[], &[], &[], &[], words, place)

@@ -7,14 +7,14 @@ use lib.Ieee.Exact.{HasValue, round_exact}
 use Rattle.probability.proofs.Truncating.{power}
 
 -- What a format holds has no more digits than it keeps, and no exponent below its lowest.
-digits-fit : (f : Format) (s : Bool) (m : ℕ) (e : ℤ) → T (fits f (fin s m e)) → (m < 2 ^ prec f) × (down e ≤ 2 ^ low f)
+digits_fit : (f : Format) (s : Bool) (m : ℕ) (e : ℤ) → T (fits f (fin s m e)) → (m < 2 ^ prec f) × (down e ≤ 2 ^ low f)
 unfolding fits
-digits-fit f s zero e h = (
+digits_fit f s zero e h = (
   pow_pos (prec f),
   le_trans (subst (λ (z : ℕ). z ≤ up e * down e) (one-mul (down e)) (mul-le-mul_right (down e) (up_pos e)))
       (le_trans (le_of_eq (eqb→eq (up e * down e) 1 h)) (pow_pos (low f))),
 )
-digits-fit f s (suc m) e h =
+digits_fit f s (suc m) e h =
     let odd = eqb (suc m % 2) 1 in
     let short = ltb (suc m) (2 ^ prec f) in
     let high = leb (down e) (2 ^ low f) in
@@ -33,9 +33,9 @@ back : (t l k : ℕ) → k ≤ l → t + l - k + k ≡ t + l
 back t l k h = omega arith
 
 -- The product, counted so.
-in-places : (f : Format) (t m : ℕ) (e : ℤ) → down e ≤ 2 ^ low f → m * up e * 2 ^ t * 2 ^ low f ≡ m * 2 ^ places f t e * down e
-in-places f t m (pos k) h = simp (mul_assoc, mul-one, pow-add)
-in-places f t m (negsuc k) h =
+in_places : (f : Format) (t m : ℕ) (e : ℤ) → down e ≤ 2 ^ low f → m * up e * 2 ^ t * 2 ^ low f ≡ m * 2 ^ places f t e * down e
+in_places f t m (pos k) h = simp (mul_assoc, mul-one, pow-add)
+in_places f t m (negsuc k) h =
     ap (λ (z : ℕ). z * 2 ^ t * 2 ^ low f) (mul-one m)
     ∙ mul_assoc m (2 ^ t) (2 ^ low f)
     ∙ ap (λ (z : ℕ). m * z)
@@ -47,8 +47,8 @@ unlike-positive true = refl
 unlike-positive false = refl
 
 -- A number a / c below 2 ^ n is q of the values 2 ^ -l, with q below 2 ^ (l + n).
-below-overflow : (l n a q c : ℕ) → a * 2 ^ l ≡ q * c → a < 2 ^ n * c → q < 2 ^ (l + n)
-below-overflow l n a q c e h =
+below_overflow : (l n a q c : ℕ) → a * 2 ^ l ≡ q * c → a < 2 ^ n * c → q < 2 ^ (l + n)
+below_overflow l n a q c e h =
     lt_of_mul-lt-mul_right c
     (rw (pow-add 2 l n, ← e, mul_assoc (2 ^ l) (2 ^ n) c, mul_comm (2 ^ l) (2 ^ n * c)) (mul-lt-mul_of_pos_right h (pow_pos l)))
 
@@ -57,8 +57,8 @@ pub scaled_exact : (f : Format) (t : ℕ) (s : Bool) (m : ℕ) (e : ℤ) → T (
     → HasValue (mul f (fin s m e) (power t)) s (m * up e * 2 ^ t) (down e)
 unfolding mul
 scaled_exact f t s m e h k =
-    let small = digits-fit f s m e h in
-    let units = in-places f t m e small.1 in
+    let small = digits_fit f s m e h in
+    let units = in_places f t m e small.1 in
     rw (unlike-positive s, one-mul (2 ^ t), mul-one (down e))
     (round_exact f s (m * up e * 2 ^ t) (down e) m (places f t e) (down_pos e) small.0
-    (below-overflow (low f) (suc (emax f)) (m * up e * 2 ^ t) (m * 2 ^ places f t e) (down e) units k) units)
+    (below_overflow (low f) (suc (emax f)) (m * up e * 2 ^ t) (m * 2 ^ places f t e) (down e) units k) units)

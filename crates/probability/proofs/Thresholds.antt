@@ -6,15 +6,15 @@ use lib.Ieee.Fits.{and_l, and_r, down_pos}
 use lib.Ieee.Scale.{finite}
 use lib.Ieee.Positive.{num, den}
 use borrow.Author.Tests.{not-false}
-use Rattle.distr.specs.Layered.{inUnit}
-use Rattle.distr.specs.Making.{badProbability}
+use Rattle.distr.specs.Layered.{in_unit}
+use Rattle.distr.specs.Making.{bad_probability}
 use Rattle.distr.specs.Thresholds.{threshold}
-use Rattle.probability.proofs.Truncating.{minusOne, power, above_minus_one, below_power, whole_part}
+use Rattle.probability.proofs.Truncating.{minus_one, power, above_minus_one, below_power, whole_part}
 use Rattle.probability.proofs.Scaling.{scaled_exact}
 
 -- 0.0, 1.0 and the product by 2 ^ 64.
-abbrev pub zeroFloat : Float
-zeroFloat = fin false 0 (pos 0)
+abbrev pub zero_float : Float
+zero_float = fin false 0 (pos 0)
 
 abbrev pub one : Float
 one = fin false 1 (pos 0)
@@ -24,7 +24,7 @@ scaled p = mul binary64 p (power 64)
 
 -- What is known of the product where p is below 1: it can be cut to a u64, and its whole part is the threshold.
 pub record Below (p : Float) : Type 0 where
-  pub above : T (lt minusOne (scaled p))
+  pub above : T (lt minus_one (scaled p))
   pub below : T (lt (scaled p) (power 64))
   pub cut : num (scaled p) / den (scaled p) ≡ threshold p
   pub small : threshold p < 2 ^ 64
@@ -42,7 +42,7 @@ scaled-below s m e f z h =
       small = (div-lt_iff_lt-mul (down_pos e)).1 under;
     }
 
-pub below_one : (p : Float) → T (fits binary64 p) → T (le zeroFloat p) → T (lt p one) → Below p
+pub below_one : (p : Float) → T (fits binary64 p) → T (le zero_float p) → T (lt p one) → Below p
 unfolding lt le
 below_one nan f z h = absurd h
 below_one (inf true) f z h = absurd z
@@ -54,30 +54,30 @@ below_one (fin true m e) f z h =
 below_one (fin false m e) f z h =
     scaled-below false m e f absurd (rw (mul-one, one-mul) at (ltb→lt (m * up e * 1) (1 * down e) h))
 
-or-second : (a b : Bool) → a ≡ false → T (a || b) → T b
-or-second a b e t = subst (λ (z : Bool). T (z || b)) e t
+or_second : (a b : Bool) → a ≡ false → T (a || b) → T b
+or_second a b e t = subst (λ (z : Bool). T (z || b)) e t
 
-equals-one : (p : Float) → T (eq p one) → threshold p ≡ 2 ^ 64
+equals_one : (p : Float) → T (eq p one) → threshold p ≡ 2 ^ 64
 unfolding eq
-equals-one nan t = absurd t
-equals-one (inf s) t = absurd t
-equals-one (fin s m e) t =
+equals_one nan t = absurd t
+equals_one (inf s) t = absurd t
+equals_one (fin s m e) t =
     let same : m * up e ≡ down e =
     sym (mul-one (m * up e)) ∙ eqb→eq (m * up e * 1) (1 * down e) (and_l (eqb (m * up e * 1) (1 * down e)) _ t) ∙ one-mul (down e) in
     rw same (mul-div_cancel_left (2 ^ 64) (down_pos e))
 
 pub at_one : (p : Float) → T (le p one) → lt p one ≡ false → threshold p ≡ 2 ^ 64
 unfolding le
-at_one p l h = equals-one p (or-second (lt p one) (eq p one) h l)
+at_one p l h = equals_one p (or_second (lt p one) (eq p one) h l)
 
 -- The two ends of what is no bad probability.
-in-unit : (p : Float) → badProbability p ≡ false → T (inUnit p)
-in-unit p h = and_r (finite p) (inUnit p) (subst T (sym (not-false (finite p && inUnit p) h)) tt)
+in_unit_lem : (p : Float) → bad_probability p ≡ false → T (in_unit p)
+in_unit_lem p h = and_r (finite p) (in_unit p) (subst T (sym (not-false (finite p && in_unit p) h)) tt)
 
-pub above_zero : (p : Float) → badProbability p ≡ false → T (le zeroFloat p)
+pub above_zero : (p : Float) → bad_probability p ≡ false → T (le zero_float p)
 unfolding round
-above_zero p h = and_l (le zeroFloat p) (le p one) (in-unit p h)
+above_zero p h = and_l (le zero_float p) (le p one) (in_unit_lem p h)
 
-pub below-or-one : (p : Float) → badProbability p ≡ false → T (le p one)
+pub below_or_one : (p : Float) → bad_probability p ≡ false → T (le p one)
 unfolding round
-below-or-one p h = and_r (le zeroFloat p) (le p one) (in-unit p h)
+below_or_one p h = and_r (le zero_float p) (le p one) (in_unit_lem p h)

@@ -8,8 +8,8 @@ use lib.Ieee.Nearest.{div_same}
 use lib.Ieee.Positive.{num, den}
 
 -- The two ends that a truncating function asks for.
-abbrev pub minusOne : Float
-minusOne = fin true 1 (pos 0)
+abbrev pub minus_one : Float
+minus_one = fin true 1 (pos 0)
 
 abbrev pub power : ℕ → Float
 power w = fin false 1 (pos w)
@@ -18,7 +18,7 @@ uncapped : (a c : ℕ) → a < c → min a (c - 1) ≡ a
 uncapped a c h = omega arith
 
 -- Between the two ends, the whole part.
-pub truncated : (w : ℕ) (x : Float) → T (lt minusOne x) → T (lt x (power w)) → to_unsigned w x ≡ num x / den x
+pub truncated : (w : ℕ) (x : Float) → T (lt minus_one x) → T (lt x (power w)) → to_unsigned w x ≡ num x / den x
 unfolding to_unsigned lt
 truncated w nan a b = absurd a
 truncated w (inf true) a b = absurd a
@@ -30,17 +30,17 @@ truncated w (fin false m e) a b =
     ((div-lt_iff_lt-mul (down_pos e)).1 (rw (mul-one (m * up e), one-mul (2 ^ w)) at (ltb→lt (m * up e * 1) (1 * 2 ^ w * down e) b)))
 
 -- n / d and a / c are one number, so both are below b.
-cross-lt : (n d a c b : ℕ) → 0 < d → n * c ≡ a * d → a < b * c → n < b * d
-cross-lt n d a c b D e h = lt_of_mul-lt-mul_right c (rw (e, mul_right_comm b d c) (mul-lt-mul_of_pos_right h D))
+cross_lt : (n d a c b : ℕ) → 0 < d → n * c ≡ a * d → a < b * c → n < b * d
+cross_lt n d a c b D e h = lt_of_mul-lt-mul_right c (rw (e, mul_right_comm b d c) (mul-lt-mul_of_pos_right h D))
 
 -- A float of the size a / c lies above −1 and below 2 ^ w where a / c says so, and its whole part is that of a / c.
-pub above_minus_one : (x : Float) (s : Bool) (a c : ℕ) → HasValue x s a c → (T s → a < c) → T (lt minusOne x)
+pub above_minus_one : (x : Float) (s : Bool) (a c : ℕ) → HasValue x s a c → (T s → a < c) → T (lt minus_one x)
 unfolding lt
 above_minus_one nan s a c v h = absurd v
 above_minus_one (inf t) s a c v h = absurd v
 above_minus_one (fin true m e) s a c v h =
     lt→ltb (m * up e * 1) (1 * down e)
-    (rw mul-one (cross-lt (m * up e) (down e) a c 1 (down_pos e) v.1 (rw one-mul (h (subst T v.0 tt)))))
+    (rw mul-one (cross_lt (m * up e) (down e) a c 1 (down_pos e) v.1 (rw one-mul (h (subst T v.0 tt)))))
 above_minus_one (fin false m e) s a c v h = lt→ltb 0 (1 * down e + m * up e * 1) (omega (arith, down_pos e))
 
 pub below_power : (w : ℕ) (x : Float) (s : Bool) (a c : ℕ) → HasValue x s a c → a < 2 ^ w * c → T (lt x (power w))
@@ -51,7 +51,7 @@ below_power w (fin true m e) s a c v h =
     lt→ltb 0 (m * up e * 1 + 1 * 2 ^ w * down e) (rw one-mul (omega (arith, mul-pos (pow_pos w) (down_pos e))))
 below_power w (fin false m e) s a c v h =
     lt→ltb (m * up e * 1) (1 * 2 ^ w * down e)
-    (rw (mul-one, one-mul) (cross-lt (m * up e) (down e) a c (2 ^ w) (down_pos e) v.1 h))
+    (rw (mul-one, one-mul) (cross_lt (m * up e) (down e) a c (2 ^ w) (down_pos e) v.1 h))
 
 pub whole_part : (x : Float) (s : Bool) (a c : ℕ) → 0 < c → HasValue x s a c → num x / den x ≡ a / c
 whole_part nan s a c p v = absurd v

@@ -1,9 +1,9 @@
 // Inner crate of primus_distr: probabilities as f64, which ones a distribution takes, and the threshold of one among the 64-bit words.
 ghost use Rattle.std.specs.Prelude.{◌≡◌};
 ghost use Rattle.std.specs.Float.Ieee.Scale.{finite};
-ghost use Rattle.distr.specs.Constants.{invalidProbabilities};
-ghost use Rattle.distr.specs.Making.{badProbability, badProbabilities, refuse};
-ghost use Rattle.probability.specs.Made.{madeThreshold};
+ghost use Rattle.distr.specs.Constants.{invalid_probabilities};
+ghost use Rattle.distr.specs.Making.{bad_probability, bad_probabilities, refuse};
+ghost use Rattle.probability.specs.Made.{made_threshold};
 
 use distr::refusal::INVALID_PROBABILITIES;
 use distr::threshold::Threshold;
@@ -27,14 +27,14 @@ pub fn is_finite(x: f64) -> bool
 
 // Whether p is no probability: not finite, or not in 0..1, both ends in.
 fn bad_probability(p: f64) -> bool
-    ensures { result ≡ badProbability p }
+    ensures { result ≡ bad_probability p }
 {
     !(is_finite(p) & ((0.0 <= p) & (p <= 1.0)))
 }
 
 // 1 where a probability is refused or the two exceed one, as `negative > 1.0 - positive` judges it; else 0.
 pub fn check_ternary_probabilities(negative: f64, positive: f64) -> u32
-    ensures { result ≡ refuse (badProbabilities negative positive) invalidProbabilities }
+    ensures { result ≡ refuse (bad_probabilities negative positive) invalid_probabilities }
 {
     if bad_probability(negative) | bad_probability(positive) | (negative > 1.0 - positive) {
         INVALID_PROBABILITIES
@@ -45,7 +45,7 @@ pub fn check_ternary_probabilities(negative: f64, positive: f64) -> u32
 
 // The threshold ⌊p × 2^64⌋ of a probability. The product is exact, since it only moves the exponent, and below 2^64 for p below 1.
 pub fn threshold_of(p: f64) -> MadeThreshold
-    ensures { result ≡ madeThreshold p }
+    ensures { result ≡ made_threshold p }
 {
     if bad_probability(p) {
         return MadeThreshold {

@@ -2,10 +2,10 @@
 use mathlib.Core.Path.{◌≡◌, refl}
 use mathlib.Core.List.{List, [], ◌∷◌, map}
 use Prim.Native.Nat.{ℕ}
-use Rattle.residue_text.specs.Tokens.{before, goesOn, onto, tokens}
-use Rattle.decimal.specs.Decimal.{valueFrom}
-use Rattle.residue_text.specs.Numbers.{allDigits, numbersOf}
-use Rattle.residue_text.specs.Input.{good, bad, reading, modulusOf, readRest, read_input}
+use Rattle.residue_text.specs.Tokens.{before, goes_on, onto, tokens}
+use Rattle.decimal.specs.Decimal.{value_from}
+use Rattle.residue_text.specs.Numbers.{all_digits, numbers_of}
+use Rattle.residue_text.specs.Input.{good, bad, reading, modulus_of, read_rest, read_input}
 
 -- a newline and a space; 48 to 57 are the bytes "0" to "9"
 abbrev nl : ℕ
@@ -39,5 +39,5 @@ readings : map (λ (text : List ℕ). read_input text (7 ∷ 7 ∷ []) (9 ∷ 9 
     ∷ reading (bad 3 3) (7 ∷ 7 ∷ []) (1 ∷ 9 ∷ [])
     ∷ reading (bad 3 4) (7 ∷ 7 ∷ []) (1 ∷ 2 ∷ [])
     ∷ []
-unfolding texts read_input readRest modulusOf before goesOn onto tokens allDigits valueFrom numbersOf
+unfolding texts read_input read_rest modulus_of before goes_on onto tokens all_digits value_from numbers_of
 readings = refl

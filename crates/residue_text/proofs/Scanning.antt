@@ -7,14 +7,14 @@ use native.Mathlib.Numerals.{add-one}
 use native.Mathlib.Omega.{arith}
 use lib.ListN.{length, get_or, take, drop, length-drop, drop_of_length-le}
 use lib.Seq.{drop-cons, take_all}
-use Rattle.residue_text.specs.Tokens.{isNewline, before, afterLine, Lined}
+use Rattle.residue_text.specs.Tokens.{is_newline, before, after_line, Lined}
 
 module _ (p : ℕ → Bool) where
   -- the byte after those that are passed is of the kind
-  pub before-stops : (bs : List ℕ) → before p bs < length bs → p (get_or bs (before p bs) 0) ≡ true
+  pub before_stops : (bs : List ℕ) → before p bs < length bs → p (get_or bs (before p bs) 0) ≡ true
   unfolding before
-  before-stops [] h = absurd (omega arith)
-  before-stops (b ∷ bs) h = go (p b) refl (before-stops bs) h
+  before_stops [] h = absurd (omega arith)
+  before_stops (b ∷ bs) h = go (p b) refl (before_stops bs) h
     where
       go : (t : Bool) → p b ≡ t → (before p bs < length bs → p (get_or bs (before p bs) 0) ≡ true)
           → cond t 0 (suc (before p bs)) < suc (length bs)
@@ -27,26 +27,26 @@ module _ (p : ℕ → Bool) where
   unfolding before
   before_here bs i h e = rw (drop-cons bs i 0 h, e)
 
-  pub before-later : (bs : List ℕ) (i : ℕ) → i < length bs → p (get_or bs i 0) ≡ false → before p (drop i bs) ≡ suc (before p (drop (suc i) bs))
+  pub before_later : (bs : List ℕ) (i : ℕ) → i < length bs → p (get_or bs i 0) ≡ false → before p (drop i bs) ≡ suc (before p (drop (suc i) bs))
   unfolding before
-  before-later bs i h e = rw (drop-cons bs i 0 h, e)
+  before_later bs i h e = rw (drop-cons bs i 0 h, e)
 
   pub before-end : (bs : List ℕ) (i : ℕ) → length bs ≤ i → before p (drop i bs) ≡ 0
   unfolding before
   before-end bs i h = rw (drop_of_length-le bs h)
 
 -- the first line by where its newline stands, and without one
-pub lined-newline : (text : List ℕ) (end : ℕ) → end ≡ 0 + before isNewline text → end < length text → Lined text end (end + 1)
-lined-newline text end e h =
-    let same : end ≡ before isNewline text = omega arith in
+pub lined_newline : (text : List ℕ) (end : ℕ) → end ≡ 0 + before is_newline text → end < length text → Lined text end (end + 1)
+lined_newline text end e h =
+    let same : end ≡ before is_newline text = omega arith in
     record { line = rw same; inside = omega arith; rest = rw (add-one end, same); within = omega arith }
 
-pub lined-none : (text : List ℕ) (end : ℕ) → end ≡ 0 + before isNewline text → end ≤ length text → length text ≤ end → Lined text end end
-lined-none text end e h l =
-    let same : end ≡ before isNewline text = omega arith in
-    let past : length text ≤ suc (before isNewline text) = omega arith in
+pub lined_none : (text : List ℕ) (end : ℕ) → end ≡ 0 + before is_newline text → end ≤ length text → length text ≤ end → Lined text end end
+lined_none text end e h l =
+    let same : end ≡ before is_newline text = omega arith in
+    let past : length text ≤ suc (before is_newline text) = omega arith in
     record { line = rw same; inside = h; rest = drop_of_length-le text l ∙ sym (drop_of_length-le text past); within = h }
 
 -- the text after the line, as a part up to the end
-pub lined-after : {text : List ℕ} {end next : ℕ} → Lined text end next → take (length text - next) (drop next text) ≡ afterLine text
-lined-after {text} {end} {next} l = take_all (length text - next) (drop next text) (omega (arith, length-drop next text)) ∙ l.rest
+pub lined_after : {text : List ℕ} {end next : ℕ} → Lined text end next → take (length text - next) (drop next text) ≡ after_line text
+lined_after {text} {end} {next} l = take_all (length text - next) (drop next text) (omega (arith, length-drop next text)) ∙ l.rest

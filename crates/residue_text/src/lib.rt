@@ -4,10 +4,10 @@ pub mod numbers;
 mod scan;
 
 ghost use Rattle.std.specs.Prelude.{◌≡◌, ◌≤◌, length};
-ghost use Rattle.distr.specs.Constants.{reportModulusLimit};
+ghost use Rattle.distr.specs.Constants.{report_modulus_limit};
 ghost use Rattle.residue_text.specs.Tokens.{tokens};
-ghost use Rattle.residue_text.specs.Numbers.{numbersOf, leftOver};
-ghost use Rattle.residue_text.specs.Input.{bad, reading, modulusOf, readRest, read_input};
+ghost use Rattle.residue_text.specs.Numbers.{numbers_of, left_over};
+ghost use Rattle.residue_text.specs.Input.{bad, reading, modulus_of, read_rest, read_input};
 
 use crate::number::ALL;
 use crate::numbers::read_numbers;
@@ -47,8 +47,8 @@ fn bad(part: u32, position: usize) -> Input
 
 // Reads the first line: one number of at most 2^53.
 fn read_modulus(line: &[u8]) -> First
-    ensures { (result.modulus ≡ modulusOf line.now)
-        × (result.more ≡ leftOver (numbersOf 1 reportModulusLimit (tokens line.now)) line.now) }
+    ensures { (result.modulus ≡ modulus_of line.now)
+        × (result.more ≡ left_over (numbers_of 1 report_modulus_limit (tokens line.now)) line.now) }
 {
     let mut room: [u64; 1] = [0];
     let read = read_numbers(line, MAX_EXACT_F64_INTEGER, &mut room);
@@ -63,7 +63,7 @@ fn read_modulus(line: &[u8]) -> First
 fn read_rest(text: &[u8], modulus: u64, limits: &mut [u64], residues: &mut [u64]) -> Input
     requires { 1 ≤ modulus }
     ensures residues_after { reading result limits.new residues.new
-        ≡ readRest modulus text.now limits.old residues.old }
+        ≡ read_rest modulus text.now limits.old residues.old }
     ensures limit_count_in_bounds { result.limit_count ≤ length limits.new }
     ensures residue_count_in_bounds { result.residue_count ≤ length residues.new }
 {

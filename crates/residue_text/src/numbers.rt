@@ -1,7 +1,7 @@
 // Reading the numbers of a text, one token after the other.
 ghost use Rattle.std.specs.Prelude.{◌≡◌, ◌≤◌, length};
 ghost use Rattle.decimal.specs.Decimal.{front};
-ghost use Rattle.residue_text.specs.Numbers.{numbersIn, numbersRead};
+ghost use Rattle.residue_text.specs.Numbers.{numbers_in, numbers_read};
 
 use crate::number::read_number;
 use crate::scan::{NO_SPACE, SPACE, scan};
@@ -15,8 +15,8 @@ pub struct Numbers {
 
 // Reads numbers of at most `most` into a room, up to the first token that is none or that there is no room for.
 pub fn read_numbers(text: &[u8], most: u64, numbers: &mut [u64]) -> Numbers
-    ensures value { result ≡ numbersRead (numbersIn most text.now numbers.old) text.now }
-    ensures numbers_after { numbers.new ≡ front (numbersIn most text.now numbers.old) numbers.old }
+    ensures value { result ≡ numbers_read (numbers_in most text.now numbers.old) text.now }
+    ensures numbers_after { numbers.new ≡ front (numbers_in most text.now numbers.old) numbers.old }
     ensures count_in_bounds { result.count ≤ length numbers.old }
 {
     let size = text.len();

@@ -1,6 +1,6 @@
 // The comparison of an answer with the stored one.
 ghost use Rattle.std.specs.Prelude.{◌≡◌};
-ghost use Rattle.rust_answers.specs.Answer.{same as sameAs, digestWith, digest as digestOf, shown, answerLine, agreesWith};
+ghost use Rattle.rust_answers.specs.Answer.{same as sameAs, digest_with, digest as digest_of, shown, answer_line, agrees_with};
 
 // Outputs up to this length are stored whole, longer ones by their digest.
 const SHOWN: usize = 66;
@@ -26,7 +26,7 @@ pub(crate) fn same(a: &[u64], b: &[u64]) -> bool
 
 // The digest with one element more, to which an offset is added.
 fn digest_with(digest: u64, offset: u64, element: u64) -> u64
-    ensures { result ≡ digestWith offset digest element }
+    ensures { result ≡ digest_with offset digest element }
 {
     let entered = std::num::wrapping_add_u64(element, offset);
     (48271 * (digest % MODULUS) + entered % MODULUS + 1) % MODULUS
@@ -34,7 +34,7 @@ fn digest_with(digest: u64, offset: u64, element: u64) -> u64
 
 // The digest of an output.
 fn digest(offset: u64, output: &[u64]) -> u64
-    ensures { result ≡ digestOf offset 1 output.now }
+    ensures { result ≡ digest_of offset 1 output.now }
 {
     let mut digest = 1;
     let mut i = 0;
@@ -68,7 +68,7 @@ pub(crate) fn agrees(
     skipped_bytes: u64,
     output: &[u64],
 ) -> bool
-    ensures { result ≡ agreesWith stored.now index (answerLine offset number place skipped_words skipped_bytes output.now) }
+    ensures { result ≡ agrees_with stored.now index (answer_line offset number place skipped_words skipped_bytes output.now) }
 {
     if index != 0 {
         return false;

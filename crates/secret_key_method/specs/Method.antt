@@ -3,22 +3,22 @@ use Rattle.distr.specs.declared.secret_key_distr.SecretKeyDistr.{SecretKeyDistr}
 use Rattle.distr.specs.declared.secret_key_distr.SecretKeyDistr.TheVariants as Distr
 use Rattle.distr.specs.Thresholds.{threshold}
 use Rattle.distr.specs.Gaussian.{support}
-use Rattle.distr.specs.Making.{secretNumber}
+use Rattle.distr.specs.Making.{secret_number}
 use Rattle.probability.specs.Made.{flagged}
-use Rattle.ternary.specs.Sampler.{samplerOf}
+use Rattle.ternary.specs.Sampler.{sampler_of}
 use Rattle.methods.specs.declared.PreparedMethod.{PreparedMethod}
 use Rattle.methods.specs.declared.SamplingMethod.{SamplingMethod}
 use Rattle.methods.specs.declared.SamplingMethod.TheVariants.{UniformBinary, Binary, SparseTernary, UniformTernary, Ternary}
 use Rattle.methods.specs.declared.SamplingMethod.TheVariants.{FixedHammingWeightBinary, BlockBinary, Gaussian}
 use Rattle.methods.specs.declared.SamplingMethod.TheVariants.{FixedHammingWeightTernary, FixedCompositionTernary}
-use Rattle.methods.specs.Method.{judgedMethod}
+use Rattle.methods.specs.Method.{judged_method}
 
 unfoldable pub prepared : SecretKeyDistr → SamplingMethod
 prepared Distr.UniformBinary = UniformBinary
 prepared (Distr.Binary p) = Binary (flagged (threshold p))
 prepared Distr.SparseTernary = SparseTernary
 prepared Distr.UniformTernary = UniformTernary
-prepared (Distr.Ternary minus plus) = Ternary (samplerOf (threshold minus) (threshold plus))
+prepared (Distr.Ternary minus plus) = Ternary (sampler_of (threshold minus) (threshold plus))
 prepared (Distr.FixedHammingWeightBinary h) = FixedHammingWeightBinary h
 prepared (Distr.BlockBinary size occupancy) = BlockBinary size occupancy
 prepared (Distr.FixedHammingWeightTernary h) = FixedHammingWeightTernary h
@@ -27,4 +27,4 @@ prepared (Distr.Gaussian deviation) = Gaussian (record { standard_deviation = de
 
 -- What making prepares: a number from 1 to 5, or 0 and the method.
 abbrev pub preparing : SecretKeyDistr → PreparedMethod
-preparing d = judgedMethod (secretNumber d) (prepared d)
+preparing d = judged_method (secret_number d) (prepared d)

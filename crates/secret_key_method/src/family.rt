@@ -1,12 +1,12 @@
 // The families of the distributions: binary, ternary and Gaussian.
 ghost use Rattle.std.specs.Prelude.{◌≡◌};
-ghost use Rattle.secret_key_method.specs.Family.{familyOf, isBinary, isTernary};
+ghost use Rattle.secret_key_method.specs.Family.{family_of, is_binary, is_ternary};
 
 use distr::secret_key_distr::SecretKeyDistr;
 
 // The family of a distribution: 2 where only 0 and 1 come, 3 where also -1, and 0 for the Gaussian.
 fn family(distr: SecretKeyDistr) -> u32
-    ensures { result ≡ familyOf distr }
+    ensures { result ≡ family_of distr }
 {
     match distr {
         SecretKeyDistr::UniformBinary => 2,
@@ -35,14 +35,14 @@ fn family(distr: SecretKeyDistr) -> u32
 
 // Whether a distribution gives only 0 and 1.
 pub fn is_binary(distr: SecretKeyDistr) -> bool
-    ensures { result ≡ isBinary distr }
+    ensures { result ≡ is_binary distr }
 {
     family(distr) == 2
 }
 
 // Whether a distribution is of the ternary family.
 pub fn is_ternary(distr: SecretKeyDistr) -> bool
-    ensures { result ≡ isTernary distr }
+    ensures { result ≡ is_ternary distr }
 {
     family(distr) == 3
 }

@@ -1,8 +1,8 @@
 // Preparing the method of a distribution: its parameters are judged once, before any draw.
 ghost use Rattle.std.specs.Prelude.{◌≡◌};
 ghost use Rattle.distr.specs.declared.secret_key_distr.SecretKeyDistr.TheVariants as Distr;
-ghost use Rattle.distr.specs.Making.{badBlock, refuse};
-ghost use Rattle.distr.specs.Constants.{invalidBlockSize};
+ghost use Rattle.distr.specs.Making.{bad_block, refuse};
+ghost use Rattle.distr.specs.Constants.{invalid_block_size};
 ghost use Rattle.secret_key_method.specs.Method.{preparing};
 
 use distr::refusal::INVALID_BLOCK_SIZE;
@@ -37,7 +37,7 @@ fn prepare_ternary(negative_one_probability: f64, one_probability: f64) -> Prepa
 
 // 5 for no blocks at all, and where the empty block makes one category more than a u64 can number; else 0.
 fn block_size_number(block_size: usize, occupancy: BlockOccupancy) -> u32
-    ensures { result ≡ refuse (badBlock block_size occupancy) invalidBlockSize }
+    ensures { result ≡ refuse (bad_block block_size occupancy) invalid_block_size }
 {
     if block_size == 0 {
         return INVALID_BLOCK_SIZE;

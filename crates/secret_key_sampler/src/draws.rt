@@ -1,11 +1,11 @@
 // The draws by a prepared sampler: signed, of residues of one modulus, and of several, a row for each. Each is the draw by the sampler's method, with 21
 // where making never gives the sampler; the family is chosen once, before any coefficient is drawn.
 ghost use Rattle.std.specs.Prelude.{◌≡◌, length, drop};
-ghost use Rattle.distr.specs.Distribution.{secret, skipsOf};
-ghost use Rattle.distr.specs.Draw.{outcome, Meets, encodedDraw, crtDraw, crtSkips};
+ghost use Rattle.distr.specs.Distribution.{secret, skips_of};
+ghost use Rattle.distr.specs.Draw.{outcome, Meets, encoded_draw, crt_draw, crt_skips};
 ghost use Rattle.distr.specs.Answers.{sums, reported};
 ghost use Rattle.signed_discrete_gaussian.specs.Lent.{lent};
-ghost use Rattle.secret_key_sampler.specs.Sampler.{isMade};
+ghost use Rattle.secret_key_sampler.specs.Sampler.{is_made};
 
 use crate::SecretKeySampler;
 use distr::answer::Answer;
@@ -24,10 +24,10 @@ impl SecretKeySampler {
         words: &[u32],
         place: usize,
     ) -> Answer
-        ensures meets { Meets (isMade self) (secret self.distr)
+        ensures meets { Meets (is_made self) (secret self.distr)
             (lent bounds.now endpoints.now heights.now curve.now)
             words.now place output.old (outcome result output.new) }
-        ensures result_value { sums result ≡ reported result.number (skipsOf (secret self.distr) (length output.old) (lent bounds.now endpoints.now heights.now curve.now) (drop place words.now)) }
+        ensures result_value { sums result ≡ reported result.number (skips_of (secret self.distr) (length output.old) (lent bounds.now endpoints.now heights.now curve.now) (drop place words.now)) }
     {
         let by = self.prepared();
         signed::sample_signed_to(output, by, bounds, endpoints, heights, curve, words, place)
@@ -45,10 +45,10 @@ impl SecretKeySampler {
         words: &[u32],
         place: usize,
     ) -> Answer
-        ensures output_after { outcome result output.new ≡ encodedDraw (isMade self) (secret self.distr)
+        ensures output_after { outcome result output.new ≡ encoded_draw (is_made self) (secret self.distr)
             (lent bounds.now endpoints.now heights.now curve.now)
             modulus words.now place output.old }
-        ensures result_value { sums result ≡ reported result.number (skipsOf (secret self.distr) (length output.old) (lent bounds.now endpoints.now heights.now curve.now) (drop place words.now)) }
+        ensures result_value { sums result ≡ reported result.number (skips_of (secret self.distr) (length output.old) (lent bounds.now endpoints.now heights.now curve.now) (drop place words.now)) }
     {
         let prepared = self.prepared();
         let by = ResidueMethod { prepared, modulus };
@@ -69,10 +69,10 @@ impl SecretKeySampler {
         place: usize,
     ) -> Answer
         ensures output_after { outcome result output.new ≡
-            crtDraw (isMade self) (secret self.distr)
+            crt_draw (is_made self) (secret self.distr)
             (lent bounds.now endpoints.now heights.now curve.now)
             coefficient_count moduli.now words.now place output.old }
-        ensures result_value { sums result ≡ reported result.number (crtSkips (secret self.distr) coefficient_count (lent bounds.now endpoints.now heights.now curve.now) (length output.old) (drop place words.now)) }
+        ensures result_value { sums result ≡ reported result.number (crt_skips (secret self.distr) coefficient_count (lent bounds.now endpoints.now heights.now curve.now) (length output.old) (drop place words.now)) }
     {
         crt_draw::sample_crt_to(
             output,

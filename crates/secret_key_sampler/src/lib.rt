@@ -4,9 +4,9 @@ mod draws;
 ghost use Rattle.std.specs.Prelude.{◌≡◌, not, [], ◌∷◌};
 ghost use Rattle.distr.specs.Distribution.{secret};
 ghost use Rattle.distr.specs.Making.{refuse, largest};
-ghost use Rattle.distr.specs.Numbers.{first_of, lengthNumber, modulusNumber};
-ghost use Rattle.methods.specs.Method.{testedMethod, magnitudeOf};
-ghost use Rattle.secret_key_sampler.specs.Sampler.{making, isMade};
+ghost use Rattle.distr.specs.Numbers.{first_of, length_number, modulus_number};
+ghost use Rattle.methods.specs.Method.{tested_method, magnitude_of};
+ghost use Rattle.secret_key_sampler.specs.Sampler.{making, is_made};
 
 use distr::refusal::NEVER_MADE;
 use distr::secret_key_distr::SecretKeyDistr;
@@ -55,7 +55,7 @@ impl SecretKeySampler {
 
     // 0, or 21 for a sampler that making never gives, 7 for weights over the length, 8 for a length that is no whole number of blocks.
     pub fn validate_length(self, length: usize) -> u32
-        ensures { result ≡ first_of (refuse (not (isMade self)) 21 ∷ lengthNumber (secret self.distr) length ∷ []) }
+        ensures { result ≡ first_of (refuse (not (is_made self)) 21 ∷ length_number (secret self.distr) length ∷ []) }
     {
         if !is_made(self) {
             return NEVER_MADE;
@@ -66,7 +66,7 @@ impl SecretKeySampler {
 
     // 0, or 21 for a sampler that making never gives, 9 for a modulus that is not above the largest magnitude.
     pub fn validate_modulus(self, modulus: u64) -> u32
-        ensures { result ≡ first_of (refuse (not (isMade self)) 21 ∷ modulusNumber (largest (secret self.distr)) modulus ∷ []) }
+        ensures { result ≡ first_of (refuse (not (is_made self)) 21 ∷ modulus_number (largest (secret self.distr)) modulus ∷ []) }
     {
         let made = is_made(self);
         let method = self.method;
@@ -83,7 +83,7 @@ impl SecretKeySampler {
     // An inclusive bound on every coefficient's magnitude: the Gaussian's support, else 1. For a sampler that making never
     // gives, the support that its method holds, or 1: nothing is drawn by it.
     pub fn maximum_magnitude(self) -> u64
-        ensures { result ≡ magnitudeOf self.method }
+        ensures { result ≡ magnitude_of self.method }
     {
         let method = self.method;
         methods::maximum_magnitude(method)
@@ -91,7 +91,7 @@ impl SecretKeySampler {
 
     // What the sampler draws by: its method, with 21 where making never gives the sampler.
     pub fn prepared(self) -> PreparedMethod
-        ensures { result ≡ testedMethod (isMade self) self.method }
+        ensures { result ≡ tested_method (is_made self) self.method }
     {
         let made = is_made(self);
         let method = self.method;
@@ -101,7 +101,7 @@ impl SecretKeySampler {
 
 // Whether making gives this sampler: its distribution is prepared again, and the methods are compared.
 pub fn is_made(sampler: SecretKeySampler) -> bool
-    ensures { result ≡ isMade sampler }
+    ensures { result ≡ is_made sampler }
 {
     let distr = sampler.distr;
     let method = sampler.method;

@@ -1,9 +1,9 @@
 // The two lines of an answer, or the one of a refusal, and the third line.
 ghost use Rattle.std.specs.Prelude.{true, [], ◌∷◌, ◌+◌, ◌*◌, ◌<◌, ◌≤◌, length, pos};
-ghost use Rattle.distr.specs.Constants.{sheetCoefficients};
-ghost use Rattle.sheet.specs.Text.{line, answerText, skippedLine, lineIf};
+ghost use Rattle.distr.specs.Constants.{sheet_coefficients};
+ghost use Rattle.sheet.specs.Text.{line, answer_text, skipped_line, line_if};
 ghost use Rattle.little_endian.specs.Patterns.{values_of};
-ghost use Rattle.sheet.specs.Sheet.{textLimit};
+ghost use Rattle.sheet.specs.Sheet.{text_limit};
 ghost use Rattle.sheet.specs.Written.{Written};
 
 use crate::text;
@@ -21,15 +21,15 @@ fn write_head(text: &mut [u8], number: u64, used: u64, n: u64) -> usize
 // A refusal: its number, 0, 0.
 pub(crate) fn write_refusal(text: &mut [u8], number: u32) -> usize
     requires { (67 ≤ length text.old) × (0 < number) }
-    ensures { Written text.old 0 (answerText number 0 0 []) text.new result }
+    ensures { Written text.old 0 (answer_text number 0 0 []) text.new result }
 {
     write_head(text, number as u64, 0, 0)
 }
 
 // A success: the words used, the number of values, and the values, each the bits of a coefficient.
 pub(crate) fn write_success(text: &mut [u8], used: usize, values: &[u64]) -> usize
-    requires { (textLimit ≤ length text.old) × (length values.now ≤ sheetCoefficients) }
-    ensures written { Written text.old 0 (answerText 0 used (length values.now) (values_of true values.now)) text.new result }
+    requires { (text_limit ≤ length text.old) × (length values.now ≤ sheet_coefficients) }
+    ensures written { Written text.old 0 (answer_text 0 used (length values.now) (values_of true values.now)) text.new result }
     ensures upper_bound { result ≤ 68 + 22 * length values.now }
 {
     let n = values.len();
@@ -46,7 +46,7 @@ pub(crate) fn write_skipped(
     bytes: u64,
 ) -> usize
     requires { at + 45 ≤ length text.old }
-    ensures { Written text.old at (lineIf wanted (skippedLine (record { words = words; bytes = bytes }))) text.new result }
+    ensures { Written text.old at (line_if wanted (skipped_line (record { words = words; bytes = bytes }))) text.new result }
 {
     if wanted {
         let sums: [u64; 2] = [words, bytes];

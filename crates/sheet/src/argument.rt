@@ -1,10 +1,10 @@
 // The argument of the programs that asks for the third line.
 ghost use Rattle.std.specs.Prelude.{◌≡◌};
-ghost use Rattle.sheet.specs.Argument.{sameBytes, skippedWord};
+ghost use Rattle.sheet.specs.Argument.{same_bytes, skipped_word};
 
 // Whether an argument is the word `skipped`.
 pub fn is_skipped(word: &[u8]) -> bool
-    ensures { result ≡ sameBytes word.now skippedWord }
+    ensures { result ≡ same_bytes word.now skipped_word }
 {
     if word.len() != 7 {
         return false;

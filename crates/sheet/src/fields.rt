@@ -1,6 +1,6 @@
 // The eight fields of a sheet, and whether they are good.
 ghost use Rattle.std.specs.Prelude.{◌≡◌, ◌≤◌, length};
-ghost use Rattle.sheet.specs.Sheet.{fields_of, badFields, malformed};
+ghost use Rattle.sheet.specs.Sheet.{fields_of, bad_fields, malformed};
 
 use distr::limits::{MAX_SHEET_BYTES, MAX_SHEET_COEFFICIENTS, MAX_SHEET_WORDS};
 use little_endian::words::read_words;
@@ -39,7 +39,7 @@ pub(crate) fn read_fields(sheet: &[u8]) -> Fields
 
 // Whether the fields are bad for a sheet of so many bytes. The words' end is judged in 64 bits.
 fn bad_fields(f: Fields, size: usize) -> bool
-    ensures { result ≡ badFields f size }
+    ensures { result ≡ bad_fields f size }
 {
     let kind = f.kind;
     let last = f.last;

@@ -6,8 +6,8 @@ mod reply;
 mod text;
 
 ghost use Rattle.std.specs.Prelude.{◌≡◌, false, cond, ◌≤◌, length, take};
-ghost use Rattle.distr.specs.Constants.{sheetWords};
-ghost use Rattle.sheet.specs.Sheet.{malformed, sheetTextAs, textLimit, answered, answeredWithSkipped};
+ghost use Rattle.distr.specs.Constants.{sheet_words};
+ghost use Rattle.sheet.specs.Sheet.{malformed, sheet_text_as, text_limit, answered, answered_with_skipped};
 ghost use Rattle.sheet.specs.Written.{Written};
 
 use distr::refusal::INVALID_SHEET;
@@ -18,15 +18,15 @@ const TEXT_LIMIT: usize = 98304;
 
 // Room for the words of a sheet.
 fn words_room() -> [u32; 8192]
-    ensures { length result ≡ sheetWords }
+    ensures { length result ≡ sheet_words }
 {
     [0; 8192]
 }
 
 // Answers a sheet that is not malformed: the draw that its fields ask for, on its words, with the third line where `skipped` asks for it.
 fn answer_well_formed(sheet: &[u8], text: &mut [u8], skipped: bool) -> usize
-    requires { (textLimit ≤ length text.old) × (malformed sheet.now ≡ false) }
-    ensures { Written text.old 0 (sheetTextAs skipped sheet.now) text.new result }
+    requires { (text_limit ≤ length text.old) × (malformed sheet.now ≡ false) }
+    ensures { Written text.old 0 (sheet_text_as skipped sheet.now) text.new result }
 {
     let f = fields::read_fields(sheet);
     let count = f.count as usize;
@@ -41,7 +41,7 @@ fn answer_well_formed(sheet: &[u8], text: &mut [u8], skipped: bool) -> usize
 // Answers a sheet, in a text that is long enough, with the third line where `skipped` asks for it.
 fn answer_as(sheet: &[u8], text: &mut [u8], skipped: bool) -> usize
     ensures text_after { (result, text.new) ≡
-        cond skipped (answeredWithSkipped sheet.now text.old) (answered sheet.now text.old) }
+        cond skipped (answered_with_skipped sheet.now text.old) (answered sheet.now text.old) }
     ensures upper_bound { result ≤ length text.new }
     ensures value { result ≡ length (take result text.new) }
 {
@@ -65,7 +65,7 @@ pub fn answer_sheet(sheet: &[u8], text: &mut [u8]) -> usize
 
 // Answers a sheet like `answer_sheet`, and where the draw is not refused adds a third line: the words and the bytes that it skipped.
 pub fn answer_sheet_with_skipped(sheet: &[u8], text: &mut [u8]) -> usize
-    ensures text_after { (result, text.new) ≡ answeredWithSkipped sheet.now text.old }
+    ensures text_after { (result, text.new) ≡ answered_with_skipped sheet.now text.old }
     ensures upper_bound { result ≤ length text.new }
     ensures value { result ≡ length (take result text.new) }
 {

@@ -2,10 +2,10 @@
 ghost use Rattle.std.specs.Prelude.{◌≡◌, true, ◌≤◌, length, replicate, pos};
 ghost use Rattle.distr.specs.Answers.{sums};
 ghost use Rattle.distr.specs.Draw.{outcome};
-ghost use Rattle.distr.specs.Constants.{sheetCoefficients};
-ghost use Rattle.sheet_request.specs.Request.{knownKind};
+ghost use Rattle.distr.specs.Constants.{sheet_coefficients};
+ghost use Rattle.sheet_request.specs.Request.{known_kind};
 ghost use Rattle.little_endian.specs.Patterns.{values_of};
-ghost use Rattle.sheet.specs.Sheet.{textLimit, fieldsDraw, fieldsSkipped, fieldsTextAs};
+ghost use Rattle.sheet.specs.Sheet.{text_limit, fields_draw, fields_skipped, fields_text_as};
 ghost use Rattle.sheet.specs.Written.{Written};
 
 use crate::answer;
@@ -16,14 +16,14 @@ use sheet_request::draw_question;
 
 // Room for coefficients.
 fn coefficients_room() -> [i64; 4096]
-    ensures { result ≡ replicate sheetCoefficients (pos 0) }
+    ensures { result ≡ replicate sheet_coefficients (pos 0) }
 {
     [0; 4096]
 }
 
 // Room for them as bits.
 fn values_room() -> [u64; 4096]
-    ensures { length result ≡ sheetCoefficients }
+    ensures { length result ≡ sheet_coefficients }
 {
     [0; 4096]
 }
@@ -43,9 +43,9 @@ fn copy_patterns(values: &mut [u64], coefficients: &[i64])
 
 // Draws what the fields ask for, signed coefficients or residues as their value, and hands it out as bits.
 fn draw(values: &mut [u64], f: Fields, words: &[u32]) -> Answer
-    requires { (f.n ≤ sheetCoefficients) × (knownKind f.kind ≡ true) × (length values.old ≡ f.n) }
-    ensures values_after { outcome result (values_of true values.new) ≡ fieldsDraw f words.now }
-    ensures result_value { sums result ≡ fieldsSkipped f words.now }
+    requires { (f.n ≤ sheet_coefficients) × (known_kind f.kind ≡ true) × (length values.old ≡ f.n) }
+    ensures values_after { outcome result (values_of true values.new) ≡ fields_draw f words.now }
+    ensures result_value { sums result ≡ fields_skipped f words.now }
 {
     let kind = f.kind;
     let n = f.n as usize;
@@ -61,8 +61,8 @@ fn draw(values: &mut [u64], f: Fields, words: &[u32]) -> Answer
 
 // The answer of the fields on the words, with the third line where `skipped` asks for it.
 pub(crate) fn reply(f: Fields, words: &[u32], text: &mut [u8], skipped: bool) -> usize
-    requires { (textLimit ≤ length text.old) × (f.n ≤ sheetCoefficients) × (knownKind f.kind ≡ true) }
-    ensures { Written text.old 0 (fieldsTextAs skipped f words.now) text.new result }
+    requires { (text_limit ≤ length text.old) × (f.n ≤ sheet_coefficients) × (known_kind f.kind ≡ true) }
+    ensures { Written text.old 0 (fields_text_as skipped f words.now) text.new result }
 {
     let n = f.n as usize;
     let mut room = values_room();

@@ -2,7 +2,7 @@
 // written is 64 bits: signed ones are a coefficient, others a number of the first or the third line.
 ghost use Rattle.std.specs.Prelude.{◌≡◌, ◌+◌, ◌*◌, ◌≤◌, length, nat_abs};
 ghost use Rattle.decimal.specs.Decimal.{decimal};
-ghost use Rattle.sheet.specs.Text.{only_if, itemText, line};
+ghost use Rattle.sheet.specs.Text.{only_if, item_text, line};
 ghost use Rattle.little_endian.specs.Patterns.{value_of, values_of};
 ghost use Rattle.sheet.specs.Written.{Written};
 
@@ -49,8 +49,8 @@ fn write_number(text: &mut [u8], at: usize, value: u64) -> usize
 
 // A value of a line: a space before it if it is a later one, a minus sign if it is negative, and its magnitude.
 fn write_item(text: &mut [u8], at: usize, later: bool, bits: u64, signed: bool) -> usize
-    requires { at + length (itemText later (value_of signed bits)) ≤ length text.old }
-    ensures { Written text.old at (itemText later (value_of signed bits)) text.new result }
+    requires { at + length (item_text later (value_of signed bits)) ≤ length text.old }
+    ensures { Written text.old at (item_text later (value_of signed bits)) text.new result }
 {
     let after_space = write_byte(text, at, later, 32);
     let after_sign = write_byte(text, after_space, signed & (TOP < bits), 45);

@@ -5,7 +5,7 @@ mod residues;
 ghost use Rattle.std.specs.Prelude.{◌≡◌, length};
 ghost use Rattle.distr.specs.Draw.{outcome};
 ghost use Rattle.distr.specs.Answers.{sums, reported};
-ghost use Rattle.sheet_request.specs.Request.{selected, question, questionSkips};
+ghost use Rattle.sheet_request.specs.Request.{selected, question, question_skips};
 
 use any_sampler::AnyDistr;
 use distr::answer::Answer;
@@ -56,7 +56,7 @@ pub fn draw_question(
     place: usize,
 ) -> Answer
     ensures output_after { outcome result output.new ≡ question kind a b modulus words.now place output.old }
-    ensures result_value { sums result ≡ reported result.number (questionSkips kind a b (length output.old) words.now place) }
+    ensures result_value { sums result ≡ reported result.number (question_skips kind a b (length output.old) words.now place) }
 {
     let found = select(kind, a, b);
     if modulus == 0 {

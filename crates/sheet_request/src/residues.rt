@@ -1,11 +1,11 @@
 // Residues of one modulus in an output of signed numbers: the coefficients are drawn there, and then each becomes the value of its residue.
 ghost use Rattle.std.specs.Prelude.{◌≡◌, true, map, length, drop, replicate, ℤ, pos};
 ghost use Rattle.distr.specs.Answers.{sums, reported};
-ghost use Rattle.distr.specs.Distribution.{Distr, skipsOf};
+ghost use Rattle.distr.specs.Distribution.{Distr, skips_of};
 ghost use Rattle.distr.specs.Encoding.{encode};
-ghost use Rattle.distr.specs.Draw.{outcome, noTables, encodedDraw};
-ghost use Rattle.any_sampler.specs.Either.{anyAtOnce, anySkips};
-ghost use Rattle.sheet_request.specs.Request.{asValues};
+ghost use Rattle.distr.specs.Draw.{outcome, no_tables, encoded_draw};
+ghost use Rattle.any_sampler.specs.Either.{any_at_once, any_skips};
+ghost use Rattle.sheet_request.specs.Request.{as_values};
 
 use any_sampler::AnyDistr;
 use distr::answer::{Answer, refused};
@@ -50,10 +50,10 @@ pub(crate) fn draw_residues(
     words: &[u32],
     place: usize,
 ) -> Answer
-    ensures output_after { outcome result output.new ≡ anyAtOnce found place output.old (λ (d : Distr). asValues output.old
-        (encodedDraw true d noTables modulus words.now place (replicate (length output.old) 0))) }
+    ensures output_after { outcome result output.new ≡ any_at_once found place output.old (λ (d : Distr). as_values output.old
+        (encoded_draw true d no_tables modulus words.now place (replicate (length output.old) 0))) }
     ensures result_value { sums result ≡ reported result.number
-        (anySkips found (λ (d : Distr). skipsOf d (length output.old) noTables (drop place words.now))) }
+        (any_skips found (λ (d : Distr). skips_of d (length output.old) no_tables (drop place words.now))) }
 {
     let prepared = found.prepare();
     let refusal = prepared.number;

@@ -13,10 +13,10 @@ module _ (modulus : ℕ) where
   unfolding all_below
   below_rest r rs e = (both_true (ltb r modulus) (all_below modulus rs) e).1
 
-  below-append : (xs ys : List ℕ) → all_below modulus (xs ++ ys) ≡ (all_below modulus xs && all_below modulus ys)
+  below_append : (xs ys : List ℕ) → all_below modulus (xs ++ ys) ≡ (all_below modulus xs && all_below modulus ys)
   unfolding all_below
-  below-append [] ys = refl
-  below-append (x ∷ xs) ys = rw (below-append xs ys) (grouped (ltb x modulus) (all_below modulus xs) (all_below modulus ys))
+  below_append [] ys = refl
+  below_append (x ∷ xs) ys = rw (below_append xs ys) (grouped (ltb x modulus) (all_below modulus xs) (all_below modulus ys))
     where
       grouped : (a b c : Bool) → (a && (b && c)) ≡ (a && b && c)
       grouped true b c = refl
@@ -27,7 +27,7 @@ module _ (modulus : ℕ) where
       → (all_below modulus (take i rs) ≡ true) × (all_below modulus (drop i rs) ≡ true)
   below_parts i rs e =
       both_true (all_below modulus (take i rs)) (all_below modulus (drop i rs))
-      (sym (below-append (take i rs) (drop i rs)) ∙ ap (all_below modulus) (take-append-drop i rs) ∙ e)
+      (sym (below_append (take i rs) (drop i rs)) ∙ ap (all_below modulus) (take-append-drop i rs) ∙ e)
 
   -- a block
   pub below-block : (at n : ℕ) (rs : List ℕ) → all_below modulus rs ≡ true → all_below modulus (take n (drop at rs)) ≡ true
@@ -49,4 +49,4 @@ module _ (modulus : ℕ) where
       → (all_below modulus (take i rs) && ltb (get_or rs i 0) modulus) ≡ all_below modulus (take (i + 1) rs)
   unfolding all_below
   below_more rs i h =
-      rw (add-one i, take-suc rs i 0 h, below-append (take i rs) (get_or rs i 0 ∷ []), and-true (ltb (get_or rs i 0) modulus))
+      rw (add-one i, take-suc rs i 0 h, below_append (take i rs) (get_or rs i 0 ∷ []), and-true (ltb (get_or rs i 0) modulus))

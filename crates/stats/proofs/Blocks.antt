@@ -4,16 +4,16 @@ use Rattle.stats.specs.declared.sums.BlockSums.{BlockSums}
 use Rattle.stats.specs.declared.sums.Totals.{Totals}
 use Rattle.stats.specs.declared.wide.Halves.{Halves}
 use Rattle.stats.specs.Centered.{all_below}
-use Rattle.stats.specs.Sums.{value_of, total, aboveHalf, size_of, residueSums, blockSums, squaresFrom, TotalsOf, FitsTotals}
-use Rattle.stats.proofs.Totals.{total-more, total-block, total-most}
+use Rattle.stats.specs.Sums.{value_of, total, above_half, size_of, residue_sums, block_sums, squares_from, TotalsOf, FitsTotals}
+use Rattle.stats.proofs.Totals.{total_more, total-block, total-most}
 use Rattle.stats.proofs.Below.{below_parts}
-use Rattle.stats.proofs.Centering.{at-most-few, size-most}
-use Rattle.stats.proofs.Squares.{squares-from}
+use Rattle.stats.proofs.Centering.{at_most-few, size-most}
+use Rattle.stats.proofs.Squares.{squares_from_lem}
 use Rattle.stats.proofs.Carrying.{high-few}
 
 -- a number of at most 2^120 has a high half far below 2^64
-pub halves-fit : (h : Halves) {n : ℕ} → value_of h ≡ n → n ≤ 2 ^ 120 → h.high < 2 ^ 60
-halves-fit h e l = high-few h.high h.low (2 ^ 60) (rw e (lt_of_le_of_lt l (lit< tt)))
+pub halves_fit : (h : Halves) {n : ℕ} → value_of h ≡ n → n ≤ 2 ^ 120 → h.high < 2 ^ 60
+halves_fit h e l = high-few h.high h.low (2 ^ 60) (rw e (lt_of_le_of_lt l (lit< tt)))
 
 -- Sums of n residues of a modulus of at most 2^53.
 pub record Small (n : ℕ) (s : BlockSums) : Type 0 where
@@ -36,38 +36,38 @@ module _ (modulus : ℕ) (m : modulus ≤ 2 ^ 53) where
     lower-few : size_of modulus r % 2 ^ 26 ≤ 2 ^ 26
     lower-few = omega arith
 
-    pub residue-small : Small 1 (residueSums modulus r)
-    unfolding residueSums
-    residue-small = record {
+    pub residue_small : Small 1 (residue_sums modulus r)
+    unfolding residue_sums
+    residue_small = record {
       residues = omega arith;
-      negatives = at-most-few (suc (modulus / 2)) r;
+      negatives = at_most-few (suc (modulus / 2)) r;
       upper = mul-le-mul upper-few upper-few;
       cross = mul-le-mul upper-few lower-few;
       lower = mul-le-mul lower-few lower-few;
     }
 
-  pub block-small : (rs : List ℕ) → all_below modulus rs ≡ true → Small (length rs) (blockSums modulus rs)
-  unfolding blockSums
+  pub block-small : (rs : List ℕ) → all_below modulus rs ≡ true → Small (length rs) (block_sums modulus rs)
+  unfolding block_sums
   block-small rs below = record {
-    residues = total-most _ modulus (2 ^ 53) rs (λ r h. omega (arith, (residue-small r h).residues)) below;
-    negatives = total-most _ modulus 1 rs (λ r h. omega (arith, (residue-small r h).negatives)) below;
-    upper = total-most _ modulus (2 ^ 52) rs (λ r h. omega (arith, (residue-small r h).upper)) below;
-    cross = total-most _ modulus (2 ^ 52) rs (λ r h. omega (arith, (residue-small r h).cross)) below;
-    lower = total-most _ modulus (2 ^ 52) rs (λ r h. omega (arith, (residue-small r h).lower)) below;
+    residues = total-most _ modulus (2 ^ 53) rs (λ r h. omega (arith, (residue_small r h).residues)) below;
+    negatives = total-most _ modulus 1 rs (λ r h. omega (arith, (residue_small r h).negatives)) below;
+    upper = total-most _ modulus (2 ^ 52) rs (λ r h. omega (arith, (residue_small r h).upper)) below;
+    cross = total-most _ modulus (2 ^ 52) rs (λ r h. omega (arith, (residue_small r h).cross)) below;
+    lower = total-most _ modulus (2 ^ 52) rs (λ r h. omega (arith, (residue_small r h).lower)) below;
   }
 
 -- A block that is being summed.
 module _ (modulus : ℕ) (rs : List ℕ) where
   -- the first i residues are summed
   pub record Summed (i : ℕ) (s : BlockSums) : Type 0 where
-    pub sums : s ≡ blockSums modulus (take i rs)
+    pub sums : s ≡ block_sums modulus (take i rs)
 
-  pub summed-none : Summed 0 (record { residues = 0; negatives = 0; upper = 0; cross = 0; lower = 0 })
-  unfolding blockSums total
-  summed-none = record { sums = refl }
+  pub summed_none : Summed 0 (record { residues = 0; negatives = 0; upper = 0; cross = 0; lower = 0 })
+  unfolding block_sums total
+  summed_none = record { sums = refl }
 
   -- one residue more
-  pub summed-more : {i : ℕ} {s o : BlockSums} → i < length rs → Summed i s → o ≡ residueSums modulus (get_or rs i 0)
+  pub summed_more : {i : ℕ} {s o : BlockSums} → i < length rs → Summed i s → o ≡ residue_sums modulus (get_or rs i 0)
       → Summed (i + 1) (record {
         residues = s.residues + o.residues;
         negatives = s.negatives + o.negatives;
@@ -75,61 +75,61 @@ module _ (modulus : ℕ) (rs : List ℕ) where
         cross = s.cross + o.cross;
         lower = s.lower + o.lower;
       })
-  unfolding blockSums
-  summed-more {i} h w e =
+  unfolding block_sums
+  summed_more {i} h w e =
       record {
         sums =
             rw (
               w.sums,
               e,
-              total-more (λ r. (residueSums modulus r).residues) rs i h,
-              total-more (λ r. (residueSums modulus r).negatives) rs i h,
-              total-more (λ r. (residueSums modulus r).upper) rs i h,
-              total-more (λ r. (residueSums modulus r).cross) rs i h,
-              total-more (λ r. (residueSums modulus r).lower) rs i h,
+              total_more (λ r. (residue_sums modulus r).residues) rs i h,
+              total_more (λ r. (residue_sums modulus r).negatives) rs i h,
+              total_more (λ r. (residue_sums modulus r).upper) rs i h,
+              total_more (λ r. (residue_sums modulus r).cross) rs i h,
+              total_more (λ r. (residue_sums modulus r).lower) rs i h,
             );
       }
 
-  pub summed-all : {i : ℕ} {s : BlockSums} → length rs ≤ i → Summed i s → s ≡ blockSums modulus rs
-  summed-all {i} h w = w.sums ∙ ap (blockSums modulus) (take_all i rs h)
+  pub summed_all : {i : ℕ} {s : BlockSums} → length rs ≤ i → Summed i s → s ≡ block_sums modulus rs
+  summed_all {i} h w = w.sums ∙ ap (block_sums modulus) (take_all i rs h)
 
   -- the sums of a block fit, and one residue more fits
-  pub summed-small : modulus ≤ 2 ^ 53 → all_below modulus rs ≡ true → {i : ℕ} {s : BlockSums} → i ≤ length rs → Summed i s → Small i s
-  summed-small m below {i} h w =
+  pub summed_small : modulus ≤ 2 ^ 53 → all_below modulus rs ≡ true → {i : ℕ} {s : BlockSums} → i ≤ length rs → Summed i s → Small i s
+  summed_small m below {i} h w =
       rw w.sums (rw (length-take-le i rs h) at (block-small modulus m (take i rs) (below_parts modulus i rs below).0))
 
 -- Blocks one after the other.
 module _ (modulus : ℕ) (rs : List ℕ) where
   -- a block more
-  pub totals-more : {s t : Totals} {b : BlockSums} (at end : ℕ) → at ≤ end → TotalsOf modulus (take at rs) s
-      → b ≡ blockSums modulus (take (end - at) (drop at rs))
+  pub totals_more : {s t : Totals} {b : BlockSums} (at end : ℕ) → at ≤ end → TotalsOf modulus (take at rs) s
+      → b ≡ block_sums modulus (take (end - at) (drop at rs))
       → value_of t.residues ≡ value_of s.residues + b.residues
       → value_of t.moduli ≡ value_of s.moduli + modulus * b.negatives
-      → value_of t.squares ≡ value_of s.squares + squaresFrom b → TotalsOf modulus (take end rs) t
-  unfolding blockSums residueSums
-  totals-more {s} {t} {b} at end h w e p q r =
+      → value_of t.squares ≡ value_of s.squares + squares_from b → TotalsOf modulus (take end rs) t
+  unfolding block_sums residue_sums
+  totals_more {s} {t} {b} at end h w e p q r =
       let block : List ℕ = take (end - at) (drop at rs) in
       record {
         residues = p ∙ rw (w.residues, e, total-block (λ x. x) rs at end h);
         moduli =
             q
-            ∙ rw (w.moduli, e, total-block (aboveHalf modulus) rs at end h)
-            (sym (mul-add modulus (total (aboveHalf modulus) (take at rs)) (total (aboveHalf modulus) block)));
-        squares = r ∙ rw (w.squares, e, total-block (λ x. size_of modulus x * size_of modulus x) rs at end h, squares-from modulus block);
+            ∙ rw (w.moduli, e, total-block (above_half modulus) rs at end h)
+            (sym (mul-add modulus (total (above_half modulus) (take at rs)) (total (above_half modulus) block)));
+        squares = r ∙ rw (w.squares, e, total-block (λ x. size_of modulus x * size_of modulus x) rs at end h, squares_from_lem modulus block);
       }
 
-  pub totals-none : {s : Totals} → value_of s.residues ≡ 0 → value_of s.moduli ≡ 0 → value_of s.squares ≡ 0 → TotalsOf modulus [] s
+  pub totals_none : {s : Totals} → value_of s.residues ≡ 0 → value_of s.moduli ≡ 0 → value_of s.squares ≡ 0 → TotalsOf modulus [] s
   unfolding total
-  totals-none p q r = record { residues = p; moduli = rw mul-zero q; squares = r }
+  totals_none p q r = record { residues = p; moduli = rw mul-zero q; squares = r }
 
   -- how large the sums are
   module _ (m : modulus ≤ 2 ^ 53) (below : all_below modulus rs ≡ true) (n : length rs ≤ 65536) where
     residues-most : total (λ r. r) rs ≤ 2 ^ 69
     residues-most = le_trans (total-most (λ r. r) modulus (2 ^ 53) rs (λ r h. omega arith) below) (omega arith)
 
-    moduli-most : modulus * total (aboveHalf modulus) rs ≤ 2 ^ 69
+    moduli-most : modulus * total (above_half modulus) rs ≤ 2 ^ 69
     moduli-most =
-        mul-le-mul {m₂ = 65536} m (le_trans (total-most (aboveHalf modulus) modulus 1 rs (λ r h. at-most-few (suc (modulus / 2)) r) below) (omega arith))
+        mul-le-mul {m₂ = 65536} m (le_trans (total-most (above_half modulus) modulus 1 rs (λ r h. at_most-few (suc (modulus / 2)) r) below) (omega arith))
 
     pub squares-most : total (λ r. size_of modulus r * size_of modulus r) rs ≤ 2 ^ 120
     squares-most =
@@ -138,15 +138,15 @@ module _ (modulus : ℕ) (rs : List ℕ) where
         (mul-le-mul_right (2 ^ 104) n)
 
     -- so their high halves are far below 2^64
-    pub totals-fit : {s : Totals} → TotalsOf modulus rs s → FitsTotals s
-    totals-fit {s} w = record {
-      residues = halves-fit s.residues w.residues (le_trans residues-most (lit≤ tt));
-      moduli = halves-fit s.moduli w.moduli (le_trans moduli-most (lit≤ tt));
-      squares = halves-fit s.squares w.squares squares-most;
+    pub totals_fit : {s : Totals} → TotalsOf modulus rs s → FitsTotals s
+    totals_fit {s} w = record {
+      residues = halves_fit s.residues w.residues (le_trans residues-most (lit≤ tt));
+      moduli = halves_fit s.moduli w.moduli (le_trans moduli-most (lit≤ tt));
+      squares = halves_fit s.squares w.squares squares-most;
     }
 
 -- the modulus once for each negative residue of a block
 pub block-moduli : (modulus : ℕ) (rs : List ℕ) → modulus ≤ 2 ^ 53 → all_below modulus rs ≡ true → length rs ≤ 1024
-    → modulus * (blockSums modulus rs).negatives < 2 ^ 64
+    → modulus * (block_sums modulus rs).negatives < 2 ^ 64
 block-moduli modulus rs m below n =
     lt_of_le_of_lt (mul-le-mul {m₂ = 1024} m (omega (arith, (block-small modulus m rs below).negatives))) (lit< tt)

@@ -54,8 +54,8 @@ module _ (x factor rest : ℕ) (whole : factor * rest ≡ 2 ^ 64) where
   pub rest_some : 0 < rest
   rest_some = ⊎_elim (λ z. absurd (omega (arith, rw (z, mul-zero factor) at whole))) (λ h. h) (eq-zero-or-pos rest)
 
-  factor-some : 0 < factor
-  factor-some = ⊎_elim (λ z. absurd (omega (arith, rw (z, zero-mul rest) at whole))) (λ h. h) (eq-zero-or-pos factor)
+  factor_some : 0 < factor
+  factor_some = ⊎_elim (λ z. absurd (omega (arith, rw (z, zero-mul rest) at whole))) (λ h. h) (eq-zero-or-pos factor)
 
   pub scaled-is : joined (x / rest) (x % rest * factor) ≡ x * factor
   scaled-is =
@@ -65,7 +65,7 @@ module _ (x factor rest : ℕ) (whole : factor * rest ≡ 2 ^ 64) where
       ∙ ap (λ (n : ℕ). n * factor) (div-add-mod' x rest)
 
   pub scaled_fits : x % rest * factor < 2 ^ 64
-  scaled_fits = rw (← whole, mul_comm factor rest) (mul-lt-mul_of_pos_right (mod-lt x rest_some) factor-some)
+  scaled_fits = rw (← whole, mul_comm factor rest) (mul-lt-mul_of_pos_right (mod-lt x rest_some) factor_some)
 
 -- the halves of a number are its quotient and its remainder
 pub high_is : (h l : ℕ) → l < 2 ^ 64 → h ≡ joined h l / 2 ^ 64

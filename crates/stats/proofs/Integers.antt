@@ -9,8 +9,8 @@ difference-is a zero = rw (le-ltb a 0 (omega arith), sub-zero a, add-zero a)
 difference-is a (suc b) = refl
 
 -- two differences are added by their parts
-pub differences-add : (a b c d : ℕ) → sub_ℕ a b +ℤ sub_ℕ c d ≡ sub_ℕ (a + c) (b + d)
-differences-add a b c d =
+pub differences_add : (a b c d : ℕ) → sub_ℕ a b +ℤ sub_ℕ c d ≡ sub_ℕ (a + c) (b + d)
+differences_add a b c d =
     ap (λ z. z +ℤ sub_ℕ c d) (difference-is a b)
     ∙ ap (λ z. pos a -ℤ pos b +ℤ z) (difference-is c d)
     ∙ exchanged (pos a) (neg_ℤ (pos b)) (pos c) (neg_ℤ (pos d))
@@ -27,5 +27,5 @@ differences-add a b c d =
 pub size_less : (a b : ℕ) → a < b → nat_abs (sub_ℕ a b) ≡ b - a
 size_less a b h = rw (lt-ltb a b h) (omega arith)
 
-pub size-more : (a b : ℕ) → b ≤ a → nat_abs (sub_ℕ a b) ≡ a - b
-size-more a b h = rw (le-ltb a b h)
+pub size_more : (a b : ℕ) → b ≤ a → nat_abs (sub_ℕ a b) ≡ a - b
+size_more a b h = rw (le-ltb a b h)

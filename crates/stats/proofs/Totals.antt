@@ -5,15 +5,15 @@ use Rattle.stats.specs.Sums.{total}
 use Rattle.stats.proofs.Below.{below-first, below_rest}
 
 module _ (f : ℕ → ℕ) where
-  pub total-append : (xs ys : List ℕ) → total f (xs ++ ys) ≡ total f xs + total f ys
+  pub total_append : (xs ys : List ℕ) → total f (xs ++ ys) ≡ total f xs + total f ys
   unfolding total
-  total-append [] ys = omega arith
-  total-append (x ∷ xs) ys = omega (arith, total-append xs ys)
+  total_append [] ys = omega arith
+  total_append (x ∷ xs) ys = omega (arith, total_append xs ys)
 
   -- one element more
-  pub total-more : (xs : List ℕ) (i : ℕ) → i < length xs → total f (take (i + 1) xs) ≡ total f (take i xs) + f (get_or xs i 0)
+  pub total_more : (xs : List ℕ) (i : ℕ) → i < length xs → total f (take (i + 1) xs) ≡ total f (take i xs) + f (get_or xs i 0)
   unfolding total
-  total-more xs i h = rw (add-one i, take-suc xs i 0 h, total-append (take i xs) (get_or xs i 0 ∷ [])) (omega arith)
+  total_more xs i h = rw (add-one i, take-suc xs i 0 h, total_append (take i xs) (get_or xs i 0 ∷ [])) (omega arith)
 
   -- a block more
   pub total-block : (xs : List ℕ) (at end : ℕ) → at ≤ end → total f (take end xs) ≡ total f (take at xs) + total f (take (end - at) (drop at xs))
@@ -21,7 +21,7 @@ module _ (f : ℕ → ℕ) where
       let parts : end ≡ at + (end - at) = omega arith in
       ap (λ (n : ℕ). total f (take n xs)) parts
       ∙ ap (total f) (take-add at (end - at) xs)
-      ∙ total-append (take at xs) (take (end - at) (drop at xs))
+      ∙ total_append (take at xs) (take (end - at) (drop at xs))
 
   -- values of at most `most` for residues below the modulus
   pub total-most : (modulus most : ℕ) (xs : List ℕ) → ((r : ℕ) → r < modulus → f r ≤ most) → all_below modulus xs ≡ true

@@ -1,12 +1,12 @@
 -- Counting the magnitudes within a limit that is below half the modulus.
 use Rattle.std.proofs.Common.{◌≡◌, ℕ, ◌+◌, ◌-◌, ◌/◌, ◌<◌, ◌≤◌, true, List, map, length, get_or, take, set, sym, refl, ap, ◌∙◌, add-one, arith, take_all}
 use lib.ListN.{length-map, get_or-map}
-use Rattle.distr.proofs.Writing.{written, written-length, written-more, written_all}
-use Rattle.stats.specs.Centered.{centeredAll, howManyWithin, all_below}
+use Rattle.distr.proofs.Writing.{written, written-length, written_more, written_all}
+use Rattle.stats.specs.Centered.{centered_all, how_many_within, all_below}
 use Rattle.stats.specs.Sums.{total, at_most, size_of}
-use Rattle.stats.proofs.Totals.{total-more}
+use Rattle.stats.proofs.Totals.{total_more}
 use Rattle.stats.proofs.Below.{below_at}
-use Rattle.stats.proofs.Centering.{at-most-few, within-sides, within-is}
+use Rattle.stats.proofs.Centering.{at_most-few, within_sides, within-is}
 
 module _ (rs : List ℕ) (modulus limit : ℕ) where
   -- those of the first i residues are counted
@@ -21,16 +21,16 @@ module _ (rs : List ℕ) (modulus limit : ℕ) where
   module _ (below : all_below modulus rs ≡ true) (less : limit < modulus / 2) {i count : ℕ} (c : Counted i count) (h : i < length rs) where
     -- a residue is counted from one side at most
     one_side : at_most (size_of modulus (get_or rs i 0)) limit ≡ at_most (get_or rs i 0) limit + at_most (modulus - limit) (get_or rs i 0)
-    one_side = within-sides modulus (get_or rs i 0) limit (below_at modulus rs i below h) less
+    one_side = within_sides modulus (get_or rs i 0) limit (below_at modulus rs i below h) less
 
-    pub counted-more : {a b : ℕ} → a ≡ at_most (get_or rs i 0) limit → b ≡ at_most (modulus - limit) (get_or rs i 0)
+    pub counted_more : {a b : ℕ} → a ≡ at_most (get_or rs i 0) limit → b ≡ at_most (modulus - limit) (get_or rs i 0)
         → Counted (i + 1) (count + (a + b))
-    counted-more {a} {b} p q = record {
-      few = omega (arith, c.few, p, q, one_side, at-most-few (size_of modulus (get_or rs i 0)) limit);
-      counts = omega (arith, c.counts, p, q, one_side, total-more (λ r. at_most (size_of modulus r) limit) rs i h);
+    counted_more {a} {b} p q = record {
+      few = omega (arith, c.few, p, q, one_side, at_most-few (size_of modulus (get_or rs i 0)) limit);
+      counts = omega (arith, c.counts, p, q, one_side, total_more (λ r. at_most (size_of modulus r) limit) rs i h);
     }
 
-  pub counted-all : {i count : ℕ} → Counted i count → length rs ≤ i → count ≡ howManyWithin limit (centeredAll modulus rs)
+  pub counted-all : {i count : ℕ} → Counted i count → length rs ≤ i → count ≡ how_many_within limit (centered_all modulus rs)
   counted-all {i} c h =
       c.counts
       ∙ ap (total (λ r. at_most (size_of modulus r) limit)) (take_all i rs h)
@@ -41,11 +41,11 @@ module _ (f : ℕ → ℕ) (limits counts₀ : List ℕ) (same : length counts�
   pub record Listed (i : ℕ) (counts : List ℕ) : Type 0 where
     pub listed : counts ≡ written (map f limits) i counts₀
 
-  pub listed-none : Listed 0 counts₀
-  listed-none = record { listed = refl }
+  pub listed_none : Listed 0 counts₀
+  listed_none = record { listed = refl }
 
-  pub listed-length : {i : ℕ} {counts : List ℕ} → i ≤ length limits → Listed i counts → length counts ≡ length limits
-  listed-length {i} h l =
+  pub listed_length : {i : ℕ} {counts : List ℕ} → i ≤ length limits → Listed i counts → length counts ≡ length limits
+  listed_length {i} h l =
       ap length l.listed ∙ written-length (map f limits) counts₀ i (rw length-map h) (rw same h) ∙ same
 
   pub listed_more : {i v : ℕ} {counts : List ℕ} → i < length limits → Listed i counts → v ≡ f (get_or limits i 0)
@@ -54,11 +54,11 @@ module _ (f : ℕ → ℕ) (limits counts₀ : List ℕ) (same : length counts�
       record {
         listed =
             rw (l.listed, e ∙ sym (get_or-map f limits i 0), add-one i)
-            (written-more (map f limits) counts₀ i (f 0) (rw length-map h) (rw same h));
+            (written_more (map f limits) counts₀ i (f 0) (rw length-map h) (rw same h));
       }
 
-  pub listed-all : {i : ℕ} {counts : List ℕ} → i ≡ length limits → Listed i counts → counts ≡ map f limits
-  listed-all {i} e l =
+  pub listed_all : {i : ℕ} {counts : List ℕ} → i ≡ length limits → Listed i counts → counts ≡ map f limits
+  listed_all {i} e l =
       l.listed
       ∙ ap (λ (k : ℕ). written (map f limits) k counts₀) (e ∙ sym same)
       ∙ written_all (map f limits) counts₀ (length-map limits f ∙ sym same)

@@ -1,7 +1,7 @@
 -- Reports worked out by hand from the sentences of 02 [2], as a table: what is given, and what the report and the counts are then.
 use Rattle.std.specs.Prelude.{ℕ, ◌+◌, ◌-◌, ◌^◌, Bool, true, false, List, [], ◌∷◌}
 use Rattle.stats.specs.declared.Report.{Report}
-use Rattle.stats.specs.Report.{refusedReport, report}
+use Rattle.stats.specs.Report.{refused_report, report}
 
 pub record Case : Type 0 where
   pub given : Report × List ℕ
@@ -55,10 +55,10 @@ worked =
       );
     }
     -- 24 for a modulus of 0 and one above 2^53, before 25 and 26; no count changes
-    ∷ record { given = report (0 ∷ []) 0 (1 ∷ []) (9 ∷ 9 ∷ []); stated = (refusedReport 24, 9 ∷ 9 ∷ []) }
-    ∷ record { given = report ((2 ^ 53 + 1) ∷ []) (2 ^ 53 + 1) [] []; stated = (refusedReport 24, []) }
+    ∷ record { given = report (0 ∷ []) 0 (1 ∷ []) (9 ∷ 9 ∷ []); stated = (refused_report 24, 9 ∷ 9 ∷ []) }
+    ∷ record { given = report ((2 ^ 53 + 1) ∷ []) (2 ^ 53 + 1) [] []; stated = (refused_report 24, []) }
     -- 25 before 26
-    ∷ record { given = report (5 ∷ []) 5 (1 ∷ []) []; stated = (refusedReport 25, []) }
+    ∷ record { given = report (5 ∷ []) 5 (1 ∷ []) []; stated = (refused_report 25, []) }
     -- 26 for a residue that is the modulus
-    ∷ record { given = report (0 ∷ 5 ∷ []) 5 (1 ∷ []) (9 ∷ []); stated = (refusedReport 26, 9 ∷ []) }
+    ∷ record { given = report (0 ∷ 5 ∷ []) 5 (1 ∷ []) (9 ∷ []); stated = (refused_report 26, 9 ∷ []) }
     ∷ []

@@ -1,15 +1,15 @@
 // How many magnitudes do not exceed a limit.
 ghost use Rattle.std.specs.Prelude.{◌≡◌, ◌≤◌, true, map, length};
-ghost use Rattle.distr.specs.Constants.{outputLimit, reportModulusLimit};
-ghost use Rattle.stats.specs.Centered.{all_below, centeredAll, howManyWithin};
+ghost use Rattle.distr.specs.Constants.{output_limit, report_modulus_limit};
+ghost use Rattle.stats.specs.Centered.{all_below, centered_all, how_many_within};
 
 use crate::sums::at_most;
 
 // How many magnitudes do not exceed one limit. None exceeds half the modulus. A lower limit is met by the residues up to it and by those from the modulus
 // less the limit on, and by none twice.
 fn count_within(residues: &[u64], modulus: u64, limit: u64) -> u64
-    requires { (length residues.now ≤ outputLimit) × (modulus ≤ reportModulusLimit) × (all_below modulus residues.now ≡ true) }
-    ensures { result ≡ howManyWithin limit (centeredAll modulus residues.now) }
+    requires { (length residues.now ≤ output_limit) × (modulus ≤ report_modulus_limit) × (all_below modulus residues.now ≡ true) }
+    ensures { result ≡ how_many_within limit (centered_all modulus residues.now) }
 {
     let n = residues.len();
     if modulus / 2 <= limit {
@@ -28,9 +28,9 @@ fn count_within(residues: &[u64], modulus: u64, limit: u64) -> u64
 
 // The count of each limit.
 pub(crate) fn count_limits(residues: &[u64], modulus: u64, limits: &[u64], counts: &mut [u64])
-    requires { (length residues.now ≤ outputLimit) × (modulus ≤ reportModulusLimit) × (all_below modulus residues.now ≡ true)
+    requires { (length residues.now ≤ output_limit) × (modulus ≤ report_modulus_limit) × (all_below modulus residues.now ≡ true)
         × (length counts.old ≡ length limits.now) }
-    ensures { counts.new ≡ map (λ limit. howManyWithin limit (centeredAll modulus residues.now)) limits.now }
+    ensures { counts.new ≡ map (λ limit. how_many_within limit (centered_all modulus residues.now)) limits.now }
 {
     let n = limits.len();
     let mut i = 0;

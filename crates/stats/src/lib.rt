@@ -6,7 +6,7 @@ mod wide;
 
 ghost use Rattle.std.specs.Prelude.{◌≡◌};
 ghost use Rattle.std.proofs.Math.IntN.{sub_ℕ};
-ghost use Rattle.stats.specs.Report.{reportNumber, exactReport, refusedReport, report};
+ghost use Rattle.stats.specs.Report.{report_number, exact_report, refused_report, report};
 ghost use Rattle.stats.specs.Sums.{value_of};
 
 use distr::limits::{MAX_EXACT_F64_INTEGER, MAX_OUTPUT};
@@ -29,7 +29,7 @@ pub struct Report {
 
 // A refused report: its number, and zero sums.
 fn refused(number: u32) -> Report
-    ensures { result ≡ refusedReport number }
+    ensures { result ≡ refused_report number }
 {
     Report {
         number,
@@ -43,7 +43,7 @@ fn refused(number: u32) -> Report
 
 // What refuses a report: 6, 24, 25, then 26.
 fn report_number(residues: &[u64], modulus: u64, limit_count: usize, count_length: usize) -> u32
-    ensures { result ≡ reportNumber residues.now modulus limit_count count_length }
+    ensures { result ≡ report_number residues.now modulus limit_count count_length }
 {
     if MAX_OUTPUT < residues.len() {
         return OUTPUT_TOO_LONG;
@@ -62,7 +62,7 @@ fn report_number(residues: &[u64], modulus: u64, limit_count: usize, count_lengt
 
 // The report of sums. The centered values' sum is the residues' less the modulus for each negative one, whichever of the two is larger.
 fn exact(totals: Totals) -> Report
-    ensures { result ≡ exactReport (sub_ℕ (value_of totals.residues) (value_of totals.moduli)) (value_of totals.squares) }
+    ensures { result ≡ exact_report (sub_ℕ (value_of totals.residues) (value_of totals.moduli)) (value_of totals.squares) }
 {
     let residues = totals.residues;
     let moduli = totals.moduli;

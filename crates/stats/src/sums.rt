@@ -1,9 +1,9 @@
 // The sums over the residues. The residues of a block are few enough for sums of 64 bits, which the compiler takes several at a time; the blocks are
 // added up in halves. The square of a magnitude 2^26 u + l is 2^52 u^2 + 2^27 u l + l^2: three products that fit 64 bits.
 ghost use Rattle.std.specs.Prelude.{◌≡◌, ◌+◌, ◌*◌, ◌^◌, ◌<◌, ◌≤◌, true, length};
-ghost use Rattle.distr.specs.Constants.{outputLimit, reportModulusLimit};
+ghost use Rattle.distr.specs.Constants.{output_limit, report_modulus_limit};
 ghost use Rattle.stats.specs.Centered.{all_below};
-ghost use Rattle.stats.specs.Sums.{value_of, at_most, aboveHalf, size_of, residueSums, blockSums, squaresFrom, TotalsOf, FitsTotals};
+ghost use Rattle.stats.specs.Sums.{value_of, at_most, above_half, size_of, residue_sums, block_sums, squares_from, TotalsOf, FitsTotals};
 
 use crate::wide::{Halves, add, scaled};
 
@@ -54,15 +54,15 @@ pub(crate) fn at_most(a: u64, b: u64) -> u64
 
 // 1 for a residue above half the modulus, else 0.
 fn above_half(modulus: u64, residue: u64) -> u64
-    requires { (modulus ≤ reportModulusLimit) × (residue < modulus) }
-    ensures { result ≡ aboveHalf modulus residue }
+    requires { (modulus ≤ report_modulus_limit) × (residue < modulus) }
+    ensures { result ≡ above_half modulus residue }
 {
     at_most(modulus / 2 + 1, residue)
 }
 
 // The magnitude of a residue's centered value, which is that of the Rust's `to_centered`.
 fn size_of(modulus: u64, residue: u64) -> u64
-    requires { (modulus ≤ reportModulusLimit) × (residue < modulus) }
+    requires { (modulus ≤ report_modulus_limit) × (residue < modulus) }
     ensures { result ≡ size_of modulus residue }
 {
     if above_half(modulus, residue) == 0 {
@@ -74,8 +74,8 @@ fn size_of(modulus: u64, residue: u64) -> u64
 // What one residue adds to the sums. The upper part of its magnitude is taken modulo 2^32, which does not change it, so that the compiler
 // multiplies 32 bits.
 fn sums_of(modulus: u64, residue: u64) -> BlockSums
-    requires { (modulus ≤ reportModulusLimit) × (residue < modulus) }
-    ensures { result ≡ residueSums modulus residue }
+    requires { (modulus ≤ report_modulus_limit) × (residue < modulus) }
+    ensures { result ≡ residue_sums modulus residue }
 {
     let size = size_of(modulus, residue);
     let upper = size / 0x400_0000 % 0x1_0000_0000;
@@ -91,8 +91,8 @@ fn sums_of(modulus: u64, residue: u64) -> BlockSums
 
 // The sums of one block.
 fn block_sums(block: &[u64], modulus: u64) -> BlockSums
-    requires { (length block.now ≤ 1024) × (modulus ≤ reportModulusLimit) × (all_below modulus block.now ≡ true) }
-    ensures { result ≡ blockSums modulus block.now }
+    requires { (length block.now ≤ 1024) × (modulus ≤ report_modulus_limit) × (all_below modulus block.now ≡ true) }
+    ensures { result ≡ block_sums modulus block.now }
 {
     let n = block.len();
     let mut residues: u64 = 0;
@@ -121,7 +121,7 @@ fn block_sums(block: &[u64], modulus: u64) -> BlockSums
 
 // The sum of the squares of a block, out of the sums of products.
 fn block_squares(block: BlockSums) -> Halves
-    ensures { value_of result ≡ squaresFrom block }
+    ensures { value_of result ≡ squares_from block }
 {
     let upper = scaled(block.upper, 0x10_0000_0000_0000, 0x1000);
     let cross = scaled(block.cross, 0x800_0000, 0x20_0000_0000);
@@ -151,7 +151,7 @@ fn with_block(totals: Totals, block: BlockSums, modulus: u64) -> Totals
     requires { FitsTotals totals × (modulus * block.negatives < 2 ^ 64) }
     ensures residues_value { value_of result.residues ≡ value_of totals.residues + block.residues }
     ensures moduli_value { value_of result.moduli ≡ value_of totals.moduli + modulus * block.negatives }
-    ensures squares_value { value_of result.squares ≡ value_of totals.squares + squaresFrom block }
+    ensures squares_value { value_of result.squares ≡ value_of totals.squares + squares_from block }
 {
     let residues = totals.residues;
     let moduli = totals.moduli;
@@ -188,7 +188,7 @@ fn block_end(at: usize, n: usize) -> usize
 
 // The sums over all residues, a block after the other.
 pub(crate) fn sum_residues(residues: &[u64], modulus: u64) -> Totals
-    requires { (length residues.now ≤ outputLimit) × (modulus ≤ reportModulusLimit) × (all_below modulus residues.now ≡ true) }
+    requires { (length residues.now ≤ output_limit) × (modulus ≤ report_modulus_limit) × (all_below modulus residues.now ≡ true) }
     ensures { TotalsOf modulus residues.now result }
 {
     let n = residues.len();

@@ -7,13 +7,13 @@ use lib.Dec.{eqb}
 use lib.IntN.{pos}
 use borrow.Author.Tests.{eqb-true, eqb-false, eq-eqb, ne_eqb, not-true}
 use Rattle.distr.specs.declared.threshold.Threshold.{Threshold}
-use Rattle.distr.specs.Rule.{constant, wideWords}
-use Rattle.distr.specs.Packed.{minusOne}
-use Rattle.distr.specs.Thresholds.{nonzeroEnd, ternaryValue, ternary}
+use Rattle.distr.specs.Rule.{constant, wide_words}
+use Rattle.distr.specs.Packed.{minus_one}
+use Rattle.distr.specs.Thresholds.{nonzero_end, ternary_value, ternary}
 use Rattle.ternary.specs.declared.ternary.TernaryValue.TheVariants.{MinusOne, Zero, One}
 use Rattle.ternary.specs.declared.ternary.TernaryEnds.TheVariants.{Constant, Nonzero, General}
-use Rattle.words.specs.Reading.{thresholdValue}
-use Rattle.ternary.specs.Sampler.{samplerOf, samplerRule}
+use Rattle.words.specs.Reading.{threshold_value}
+use Rattle.ternary.specs.Sampler.{sampler_of, sampler_rule}
 
 -- the end of the nonzero words is 0
 abbrev nothing : Threshold → Threshold → Bool
@@ -35,57 +35,57 @@ nothing_false n p f e = go (eqb n.below 0) (eqb p.below 0) refl refl (rw f at e)
 
 -- where the threshold of -1 is not full: the sampler in each case of the other
 module _ (n p : Threshold) (part : n.full ≡ false) where
-  pub made-zero : nothing n p ≡ true → Constant Zero ≡ samplerOf (thresholdValue n) (thresholdValue p)
-  unfolding samplerOf
+  pub made-zero : nothing n p ≡ true → Constant Zero ≡ sampler_of (threshold_value n) (threshold_value p)
+  unfolding sampler_of
   made-zero e = let h = nothing-true n p e in rw (part, h.0, h.1, h.2)
 
-  pub made_one : n.below < 2 ^ 64 → p.full ≡ true → Constant One ≡ samplerOf (thresholdValue n) (thresholdValue p)
-  unfolding samplerOf
-  made_one h f = rw (part, f, ne_eqb n.below (2 ^ 64) (λ e. omega arith), ne_eqb (nonzeroEnd n.below (2 ^ 64)) 0 (λ e. omega arith))
+  pub made_one : n.below < 2 ^ 64 → p.full ≡ true → Constant One ≡ sampler_of (threshold_value n) (threshold_value p)
+  unfolding sampler_of
+  made_one h f = rw (part, f, ne_eqb n.below (2 ^ 64) (λ e. omega arith), ne_eqb (nonzero_end n.below (2 ^ 64)) 0 (λ e. omega arith))
 
-  pub made-nonzero : n.below < 2 ^ 64 → p.below < 2 ^ 64 → p.full ≡ false → 2 ^ 64 - 1 - n.below < p.below
-      → Nonzero n.below ≡ samplerOf (thresholdValue n) (thresholdValue p)
-  unfolding samplerOf
-  made-nonzero h k f l =
+  pub made_nonzero : n.below < 2 ^ 64 → p.below < 2 ^ 64 → p.full ≡ false → 2 ^ 64 - 1 - n.below < p.below
+      → Nonzero n.below ≡ sampler_of (threshold_value n) (threshold_value p)
+  unfolding sampler_of
+  made_nonzero h k f l =
       rw (
         part,
         f,
         ne_eqb n.below (2 ^ 64) (λ e. omega arith),
-        ne_eqb (nonzeroEnd n.below p.below) 0 (λ e. omega arith),
+        ne_eqb (nonzero_end n.below p.below) 0 (λ e. omega arith),
         ne_eqb p.below (2 ^ 64) (λ e. omega arith),
-        eq-eqb (nonzeroEnd n.below p.below) (2 ^ 64) (omega arith),
+        eq-eqb (nonzero_end n.below p.below) (2 ^ 64) (omega arith),
       )
 
-  pub made-general : n.below < 2 ^ 64 → p.full ≡ false → nothing n p ≡ false → p.below ≤ 2 ^ 64 - 1 - n.below
-      → General n.below (n.below + p.below) ≡ samplerOf (thresholdValue n) (thresholdValue p)
-  unfolding samplerOf
-  made-general h f e l =
+  pub made_general : n.below < 2 ^ 64 → p.full ≡ false → nothing n p ≡ false → p.below ≤ 2 ^ 64 - 1 - n.below
+      → General n.below (n.below + p.below) ≡ sampler_of (threshold_value n) (threshold_value p)
+  unfolding sampler_of
+  made_general h f e l =
       let some : 0 < n.below + p.below = nothing_false n p f e in
-      let end : nonzeroEnd n.below p.below ≡ n.below + p.below = omega arith in
+      let end : nonzero_end n.below p.below ≡ n.below + p.below = omega arith in
       rw (
         part,
         f,
         ne_eqb n.below (2 ^ 64) (λ e. omega arith),
-        ne_eqb (nonzeroEnd n.below p.below) 0 (λ e. omega arith),
+        ne_eqb (nonzero_end n.below p.below) 0 (λ e. omega arith),
         ne_eqb p.below (2 ^ 64) (λ e. omega arith),
-        ne_eqb (nonzeroEnd n.below p.below) (2 ^ 64) (λ e. omega arith),
+        ne_eqb (nonzero_end n.below p.below) (2 ^ 64) (λ e. omega arith),
       )
       (ap (General n.below) (sym end))
 
 -- the sampler of two thresholds draws by their rule
-pub sampler-rule : (N P n : ℕ) → samplerRule (samplerOf N P) n ≡ ternary N P n
-unfolding samplerOf samplerRule
-sampler-rule N P n = go (eqb N (2 ^ 64)) (eqb E 0) (eqb P (2 ^ 64)) (eqb E (2 ^ 64)) refl
+pub sampler_rule_lem : (N P n : ℕ) → sampler_rule (sampler_of N P) n ≡ ternary N P n
+unfolding sampler_of sampler_rule
+sampler_rule_lem N P n = go (eqb N (2 ^ 64)) (eqb E 0) (eqb P (2 ^ 64)) (eqb E (2 ^ 64)) refl
   where
     E : ℕ
-    E = nonzeroEnd N P
+    E = nonzero_end N P
 
-    values : (end : ℕ) → end ≡ E → wideWords n (ternaryValue N end) ≡ wideWords n (ternaryValue N E)
-    values end e = ap (λ (k : ℕ). wideWords n (ternaryValue N k)) e
+    values : (end : ℕ) → end ≡ E → wide_words n (ternary_value N end) ≡ wide_words n (ternary_value N E)
+    values end e = ap (λ (k : ℕ). wide_words n (ternary_value N k)) e
 
     go : (a b c d : Bool) → eqb E (2 ^ 64) ≡ d
-        → samplerRule (cond a (Constant MinusOne) (cond b (Constant Zero) (cond c (Constant One) (cond d (Nonzero N) (General N E))))) n
-        ≡ cond a (constant minusOne n) (cond b (constant (pos 0) n) (cond c (constant (pos 1) n) (wideWords n (ternaryValue N E))))
+        → sampler_rule (cond a (Constant MinusOne) (cond b (Constant Zero) (cond c (Constant One) (cond d (Nonzero N) (General N E))))) n
+        ≡ cond a (constant minus_one n) (cond b (constant (pos 0) n) (cond c (constant (pos 1) n) (wide_words n (ternary_value N E))))
     go true b c d q = refl
     go false true c d q = refl
     go false false true d q = refl

@@ -1,10 +1,10 @@
 -- A prepared ternary sampler: what the thresholds prepare, and the rule that it draws by.
 use Rattle.std.specs.Prelude.{ℕ, ◌+◌, ◌^◌, cond, true, false, List, ltb, eqb, length, ℤ, pos}
 use mir.Val.{bool_byte}
-use Rattle.distr.specs.Rule.{Rule, constant, wideWords}
-use Rattle.distr.specs.Packed.{minusOne}
-use Rattle.distr.specs.Thresholds.{nonzeroEnd, ternaryValue}
-use Rattle.distr.specs.Draw.{Outcome, ruleDraw}
+use Rattle.distr.specs.Rule.{Rule, constant, wide_words}
+use Rattle.distr.specs.Packed.{minus_one}
+use Rattle.distr.specs.Thresholds.{nonzero_end, ternary_value}
+use Rattle.distr.specs.Draw.{Outcome, rule_draw}
 use Rattle.ternary.specs.declared.ternary.TernaryValue.{TernaryValue}
 use Rattle.ternary.specs.declared.ternary.TernaryValue.TheVariants.{MinusOne, Zero, One}
 use Rattle.ternary.specs.declared.ternary.TernaryEnds.{TernaryEnds}
@@ -12,27 +12,27 @@ use Rattle.ternary.specs.declared.ternary.TernaryEnds.TheVariants.{Constant, Non
 use Rattle.ternary.specs.declared.ternary.Plan.{Plan}
 
 abbrev pub value_of : TernaryValue → ℤ
-value_of MinusOne = minusOne
+value_of MinusOne = minus_one
 value_of Zero = pos 0
 value_of One = pos 1
 
 -- The rule of a sampler for n coefficients: a constant, or "a 64-bit word below N is −1, below E is 1, else 0".
-unfoldable pub samplerRule : TernaryEnds → ℕ → Rule
-samplerRule (Constant v) n = constant (value_of v) n
-samplerRule (Nonzero N) n = wideWords n (ternaryValue N (2 ^ 64))
-samplerRule (General N E) n = wideWords n (ternaryValue N E)
+unfoldable pub sampler_rule : TernaryEnds → ℕ → Rule
+sampler_rule (Constant v) n = constant (value_of v) n
+sampler_rule (Nonzero N) n = wide_words n (ternary_value N (2 ^ 64))
+sampler_rule (General N E) n = wide_words n (ternary_value N E)
 
 -- The whole answer of a draw by a sampler into an output, `write` what it holds for coefficients.
-abbrev pub samplerDraw : {A : Type 0} → (List ℤ → List A) → TernaryEnds → List ℕ → ℕ → List A → Outcome A
-samplerDraw write ends words place out = ruleDraw write 0 (samplerRule ends (length out)) words place out
+abbrev pub sampler_draw : {A : Type 0} → (List ℤ → List A) → TernaryEnds → List ℕ → ℕ → List A → Outcome A
+sampler_draw write ends words place out = rule_draw write 0 (sampler_rule ends (length out)) words place out
 
 -- The sampler of two thresholds, -1 and 1: "N = 2^64, E = 0, P = 2^64 are tried in this order".
-unfoldable pub samplerOf : ℕ → ℕ → TernaryEnds
-samplerOf N P =
+unfoldable pub sampler_of : ℕ → ℕ → TernaryEnds
+sampler_of N P =
     cond (eqb N (2 ^ 64)) (Constant MinusOne)
-    (cond (eqb (nonzeroEnd N P) 0) (Constant Zero)
+    (cond (eqb (nonzero_end N P) 0) (Constant Zero)
     (cond (eqb P (2 ^ 64)) (Constant One)
-    (cond (eqb (nonzeroEnd N P) (2 ^ 64)) (Nonzero N) (General N (nonzeroEnd N P)))))
+    (cond (eqb (nonzero_end N P) (2 ^ 64)) (Nonzero N) (General N (nonzero_end N P)))))
 
 -- What a sampler does, whatever the type of its output: whether it reads, what it gives where not, and the two ends. Where no word gives 0
 -- none is below the second end, and 1 stands above it.
@@ -42,5 +42,5 @@ plan_of (Nonzero N) = record { reads = true; constant = Zero; above = 1; first_e
 plan_of (General N E) = record { reads = true; constant = Zero; above = 0; first_end = N; second_end = E }
 
 -- What a plan gives for a 64-bit word.
-unfoldable pub planValue : Plan → ℕ → ℤ
-planValue p w = cond (ltb w p.first_end) minusOne (pos (p.above + bool_byte (ltb w p.second_end)))
+unfoldable pub plan_value : Plan → ℕ → ℤ
+plan_value p w = cond (ltb w p.first_end) minus_one (pos (p.above + bool_byte (ltb w p.second_end)))

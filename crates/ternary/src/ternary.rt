@@ -1,7 +1,7 @@
 // `Ternary`: the ends of two thresholds, and what they ask for.
 ghost use Rattle.std.specs.Prelude.{◌≡◌};
-ghost use Rattle.words.specs.Reading.{thresholdValue};
-ghost use Rattle.ternary.specs.Sampler.{samplerOf, plan_of};
+ghost use Rattle.words.specs.Reading.{threshold_value};
+ghost use Rattle.ternary.specs.Sampler.{sampler_of, plan_of};
 
 use distr::threshold::Threshold;
 
@@ -70,7 +70,7 @@ pub fn plan_of(ends: TernaryEnds) -> Plan
 
 // The ends of the thresholds of -1 and 1. The ends are judged here, so that the loops compare u64 alone.
 pub fn from_thresholds(negative: Threshold, positive: Threshold) -> TernaryEnds
-    ensures { result ≡ samplerOf (thresholdValue negative) (thresholdValue positive) }
+    ensures { result ≡ sampler_of (threshold_value negative) (threshold_value positive) }
 {
     if negative.full {
         return TernaryEnds::Constant(TernaryValue::MinusOne);

@@ -2,8 +2,8 @@
 ghost use Rattle.std.specs.Prelude.{◌≡◌, length, drop};
 ghost use Rattle.distr.specs.Draw.{outcome};
 ghost use Rattle.distr.specs.Answers.{sums, reported};
-ghost use Rattle.ternary.specs.Sampler.{value_of, samplerDraw, samplerRule};
-ghost use Rattle.output_i64.specs.Out.{heldOne, held};
+ghost use Rattle.ternary.specs.Sampler.{value_of, sampler_draw, sampler_rule};
+ghost use Rattle.output_i64.specs.Out.{held_one, held};
 
 use crate::{Encoding, Out, clear, ends, fill, minus_one};
 use distr::answer::Answer;
@@ -13,7 +13,7 @@ use ternary::ternary::{TernaryEnds, TernaryValue, plan_of};
 
 // A value as the output holds it.
 fn encoded(encoding: Encoding, value: TernaryValue) -> Out
-    ensures { result ≡ heldOne encoding (value_of value) }
+    ensures { result ≡ held_one encoding (value_of value) }
 {
     match value {
         TernaryValue::MinusOne => minus_one(encoding),
@@ -31,8 +31,8 @@ pub fn sample_to(
     place: usize,
 ) -> Answer
     ensures output_after { outcome result output.new ≡
-        samplerDraw (held encoding) ends words.now place output.old }
-    ensures result_value { sums result ≡ reported result.number ((samplerRule ends (length output.old)).skips (drop place words.now)) }
+        sampler_draw (held encoding) ends words.now place output.old }
+    ensures result_value { sums result ≡ reported result.number ((sampler_rule ends (length output.old)).skips (drop place words.now)) }
 {
     let plan = plan_of(ends);
     let answer = wide_words::answer_of(0, plan.reads, words.len(), place, output.len());

@@ -1,9 +1,9 @@
 // The loops over 64-bit words by two ends.
 ghost use Rattle.std.specs.Prelude.{◌≡◌, ◌+◌, ◌*◌, ◌^◌, ◌<◌, ◌≤◌, length, get_or, drop};
 ghost use Rattle.distr.specs.Words.{got};
-ghost use Rattle.numbers.specs.Answering.{wideRead};
-ghost use Rattle.ternary.specs.Sampler.{planValue};
-ghost use Rattle.output_u64.specs.Out.{heldOne};
+ghost use Rattle.numbers.specs.Answering.{wide_read};
+ghost use Rattle.ternary.specs.Sampler.{plan_value};
+ghost use Rattle.output_u64.specs.Out.{held_one};
 
 use crate::{Encoding, Out, minus_one};
 use ternary::ternary::Plan;
@@ -12,7 +12,7 @@ use words::wide_word;
 // What the plan gives for the 64-bit word at a place, as the output holds it: a choice of two and a sum, and no branch on the word.
 fn element(encoding: Encoding, plan: Plan, words: &[u32], at: usize) -> Out
     requires { at + 1 < length words.now }
-    ensures { result ≡ heldOne encoding (planValue plan (get_or words.now at 0 + get_or words.now (at + 1) 0 * 2 ^ 32)) }
+    ensures { result ≡ held_one encoding (plan_value plan (get_or words.now at 0 + get_or words.now (at + 1) 0 * 2 ^ 32)) }
 {
     let word = wide_word(words[at], words[at + 1]);
     if word < plan.first_end {
@@ -25,7 +25,7 @@ fn element(encoding: Encoding, plan: Plan, words: &[u32], at: usize) -> Out
 // Each element by its 64-bit word, one a turn.
 fn fill_rest(output: &mut [Out], encoding: Encoding, plan: Plan, words: &[u32], place: usize)
     requires { place + 2 * length output.old ≤ length words.now }
-    ensures { wideRead (λ w. heldOne encoding (planValue plan w)) (length output.old) (drop place words.now) ≡
+    ensures { wide_read (λ w. held_one encoding (plan_value plan w)) (length output.old) (drop place words.now) ≡
         got output.new (drop (place + 2 * length output.old) words.now) }
 {
     let n = output.len();
@@ -43,7 +43,7 @@ fn fill_rest(output: &mut [Out], encoding: Encoding, plan: Plan, words: &[u32], 
 // three elements are left, and are lent on.
 pub(crate) fn fill(output: &mut [Out], encoding: Encoding, plan: Plan, words: &[u32], place: usize)
     requires { place + 2 * length output.old ≤ length words.now }
-    ensures { wideRead (λ w. heldOne encoding (planValue plan w)) (length output.old) (drop place words.now) ≡
+    ensures { wide_read (λ w. held_one encoding (plan_value plan w)) (length output.old) (drop place words.now) ≡
         got output.new (drop (place + 2 * length output.old) words.now) }
 {
     let n = output.len();

@@ -9,8 +9,8 @@ use borrow.Rule.Slice.PartMut.{put_mid}
 use lib.ListN.{length, drop, length-append, length-drop, drop_of_length-le}
 use lib.Seq.{drop-drop, take_at, drop_at}
 use Rattle.distr.specs.Packed.{digits}
-use Rattle.packed.specs.TritTable.{countUp, tritTable}
-use Rattle.trit_page.specs.Page.{line_of, pageText}
+use Rattle.packed.specs.TritTable.{count_up, trit_table}
+use Rattle.trit_page.specs.Page.{line_of, page_text}
 
 -- the line of a byte
 abbrev pub line_at : ℕ → List ℕ
@@ -18,21 +18,21 @@ line_at byte = line_of (digits 3 5 byte)
 
 -- those of so many, from one on
 abbrev pub lines : ℕ → ℕ → List ℕ
-lines from count = flat_map line_of (map (digits 3 5) (countUp from count))
+lines from count = flat_map line_of (map (digits 3 5) (count_up from count))
 
 length-line : (byte : ℕ) → length (line_at byte) ≡ 10
 unfolding line_of digits
 length-line byte = refl
 
 length-lines : (from count : ℕ) → length (lines from count) ≡ 10 * count
-unfolding countUp flat_map
+unfolding count_up flat_map
 length-lines from zero = refl
 length-lines from (suc count) =
     length-append (line_at from) (lines (suc from) count) ∙ omega (arith, length-line from, length-lines (suc from) count)
 
 -- one byte more
 lines_more : (from count : ℕ) → lines from (suc count) ≡ lines from count ++ line_at (from + count)
-unfolding countUp flat_map
+unfolding count_up flat_map
 lines_more from zero = append-nil (line_at from) ∙ ap line_at (sym (add-zero from))
 lines_more from (suc count) =
     let next : suc from + count ≡ from + suc count = omega arith in
@@ -48,14 +48,14 @@ printed byte page = lines 0 byte ++ drop (10 * byte) page
 pub length-printed : (byte : ℕ) (page : List ℕ) → 10 * byte ≤ length page → length (printed byte page) ≡ length page
 length-printed byte page h = simp (length-append, length-drop) (omega (arith, length-lines 0 byte))
 
-pub printed-none : (page : List ℕ) → printed 0 page ≡ page
-unfolding countUp flat_map
-printed-none page = refl
+pub printed_none : (page : List ℕ) → printed 0 page ≡ page
+unfolding count_up flat_map
+printed_none page = refl
 
 -- the line of the next is put into the ten characters after them
-pub printed-more : (byte : ℕ) (page line : List ℕ) → line ≡ line_at byte
+pub printed_more : (byte : ℕ) (page line : List ℕ) → line ≡ line_at byte
     → put_mid (10 * byte) (10 * byte + 10 - 10 * byte) (printed byte page) line ≡ printed (byte + 1) page
-printed-more byte page line e =
+printed_more byte page line e =
     let there = length-lines 0 byte in
     let ten : 10 * byte + 10 - 10 * byte ≡ 10 = omega arith in
     let end : 10 * byte + 10 ≡ 10 * (byte + 1) = omega arith in
@@ -63,6 +63,6 @@ printed-more byte page line e =
     (sym (append_assoc (lines 0 byte) (line_at byte) (drop (10 * suc byte) page)))
 
 -- after the last it is the whole page
-pub printed-all : (page : List ℕ) → length page ≡ 2430 → printed 243 page ≡ pageText
-unfolding pageText tritTable
+pub printed-all : (page : List ℕ) → length page ≡ 2430 → printed 243 page ≡ page_text
+unfolding page_text trit_table
 printed-all page e = ap (λ (t : List ℕ). lines 0 243 ++ t) (drop_of_length-le page {i = 2430} (omega arith)) ∙ append-nil (lines 0 243)

@@ -1,7 +1,7 @@
 // The page of trits, worked out by division.
 ghost use Rattle.std.specs.Prelude.{◌≡◌, ◌+◌, ◌%◌, length};
 ghost use Rattle.distr.specs.Packed.{digits};
-ghost use Rattle.trit_page.specs.Page.{line_of, pageText};
+ghost use Rattle.trit_page.specs.Page.{line_of, page_text};
 
 // The lowest digit of a number in base 3, as a character.
 fn digit(x: usize) -> u8
@@ -30,7 +30,7 @@ fn write_line(line: &mut [u8], byte: usize)
 // Writes the lines of all bytes one after the other, ten characters each.
 fn write_page(page: &mut [u8])
     requires { length page.old ≡ 2430 }
-    ensures { page.new ≡ pageText }
+    ensures { page.new ≡ page_text }
 {
     let mut byte = 0;
     while byte < 243 {
@@ -48,7 +48,7 @@ fn page_room() -> [u8; 2430]
 
 // The whole page.
 pub(crate) fn page() -> [u8; 2430]
-    ensures { result ≡ pageText }
+    ensures { result ≡ page_text }
 {
     let mut page = page_room();
     write_page(&mut page);

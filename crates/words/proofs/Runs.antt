@@ -9,15 +9,15 @@ module _ (N k w : ℕ) (some : 0 < k) (small : k ≤ N) where
   start : w - w % k ≡ k * (w / k)
   start = omega (arith, div-add-mod w k)
 
-  pub run-accepted : w - w % k ≤ N - k → w < k * (N / k)
-  run-accepted h =
+  pub run_accepted : w - w % k ≤ N - k → w < k * (N / k)
+  run_accepted h =
       let below : suc (w / k) * k ≤ N = omega (arith, start) in
       rw (mul_comm k (N / k)) ((div-lt_iff_lt-mul some).0 ((le-div_iff_mul-le some).1 below))
 
-  run-within : w < k * (N / k) → w - w % k ≤ N - k
-  run-within h =
+  run_within : w < k * (N / k) → w - w % k ≤ N - k
+  run_within h =
       let below : suc (w / k) * k ≤ N = (le-div_iff_mul-le some).0 ((div-lt_iff_lt-mul some).1 (rw (mul_comm k (N / k)) at h)) in
       omega (arith, start)
 
-  pub run-skipped : N - k < w - w % k → k * (N / k) ≤ w
-  run-skipped h = le_of_suc-le-suc (lt_of_not-le (λ t. not-le_of_lt h (run-within t)))
+  pub run_skipped : N - k < w - w % k → k * (N / k) ≤ w
+  run_skipped h = le_of_suc-le-suc (lt_of_not-le (λ t. not-le_of_lt h (run_within t)))

@@ -6,7 +6,7 @@ use native.Mathlib.Omega.{arith}
 use lib.ListN.{length, drop, length-drop}
 use lib.Seq.{drop-drop}
 use Rattle.distr.specs.Words.{Read, got, short, word, choose}
-use Rattle.distr.specs.Skipped.{passedOver}
+use Rattle.distr.specs.Skipped.{passed_over}
 use Rattle.distr.proofs.Reading.{short-not-got, chose}
 use Rattle.words.specs.declared.Taken.TheVariants.{Got, Short}
 use Rattle.words.specs.Reading.{taken}
@@ -27,13 +27,13 @@ taken-short count skipped short e = refl
 abbrev Passes : List ℕ → List ℕ → Type 0
 Passes xs rest = (m : ℕ) × (0 < m) × (m ≤ length xs) × (rest ≡ drop m xs)
 
-word-passes : (v : ℕ) (xs rest : List ℕ) → word xs ≡ got v rest → Passes xs rest
+word_passes : (v : ℕ) (xs rest : List ℕ) → word xs ≡ got v rest → Passes xs rest
 unfolding word
-word-passes v [] rest e = absurd (short-not-got e)
-word-passes v (x ∷ xs) rest e = let same : got x xs ≡ got v rest = e in (1, omega arith, omega arith, cc)
+word_passes v [] rest e = absurd (short-not-got e)
+word_passes v (x ∷ xs) rest e = let same : got x xs ≡ got v rest = e in (1, omega arith, omega arith, cc)
 
-choice-passes : (k v : ℕ) (xs rest : List ℕ) → choose k xs ≡ got v rest → Passes xs rest
-choice-passes k v xs rest e = let c = chose k xs v rest e in (suc c.passed, omega arith, c.there, c.left)
+choice_passes : (k v : ℕ) (xs rest : List ℕ) → choose k xs ≡ got v rest → Passes xs rest
+choice_passes k v xs rest e = let c = chose k xs v rest e in (suc c.passed, omega arith, c.there, c.left)
 
 module _ (ws : List ℕ) (i v p : ℕ) {s : ℕ} where
   took : (skipped : ℕ) (r : Read ℕ) → ((w : ℕ) (rest : List ℕ) → r ≡ got w rest → Passes (drop i ws) rest) → Got v p s ≡ taken (length ws) skipped r → Took ws i r v p
@@ -49,12 +49,12 @@ module _ (ws : List ℕ) (i v p : ℕ) {s : ℕ} where
       record { reads = rw (value, there) (ap (got w) left); later = omega (arith, l.1, there); within = omega (arith, inside, there) }
   took skipped short passes e = let no : Got v p s ≡ Short = e in let z : ◌≡◌ {A = ℕ} 0 1 = cc in absurd (omega arith)
 
-  pub took-word : Got v p s ≡ taken (length ws) 0 (word (drop i ws)) → Took ws i (word (drop i ws)) v p
-  took-word = took 0 (word (drop i ws)) (λ w rest. word-passes w (drop i ws) rest)
+  pub took_word : Got v p s ≡ taken (length ws) 0 (word (drop i ws)) → Took ws i (word (drop i ws)) v p
+  took_word = took 0 (word (drop i ws)) (λ w rest. word_passes w (drop i ws) rest)
 
-  pub took-choice : (k : ℕ) → Got v p s ≡ taken (length ws) (passedOver k (drop i ws)) (choose k (drop i ws)) → Took ws i (choose k (drop i ws)) v p
-  took-choice k = took (passedOver k (drop i ws)) (choose k (drop i ws)) (λ w rest. choice-passes k w (drop i ws) rest)
+  pub took_choice : (k : ℕ) → Got v p s ≡ taken (length ws) (passed_over k (drop i ws)) (choose k (drop i ws)) → Took ws i (choose k (drop i ws)) v p
+  took_choice k = took (passed_over k (drop i ws)) (choose k (drop i ws)) (λ w rest. choice_passes k w (drop i ws) rest)
 
   -- what is chosen among k is below k
-  pub chosen-below : (k : ℕ) → Got v p s ≡ taken (length ws) (passedOver k (drop i ws)) (choose k (drop i ws)) → v < k
-  chosen-below k e = (chose k (drop i ws) v (drop p ws) (took-choice k e).reads).below
+  pub chosen-below : (k : ℕ) → Got v p s ≡ taken (length ws) (passed_over k (drop i ws)) (choose k (drop i ws)) → v < k
+  chosen-below k e = (chose k (drop i ws) v (drop p ws) (took_choice k e).reads).below

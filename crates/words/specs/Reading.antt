@@ -18,9 +18,9 @@ told count (got false rest) = No (count - length rest)
 told count short = NotTold
 
 -- "Yes is a 64-bit word below it, and threshold 2^64 says yes without reading": the place stays then, whatever it is.
-unfoldable pub toldChance : List ℕ → ℕ → Threshold → Told
-toldChance words place t = cond t.full (Yes place) (told (length words) (chance t.below (drop place words)))
+unfoldable pub told_chance : List ℕ → ℕ → Threshold → Told
+told_chance words place t = cond t.full (Yes place) (told (length words) (chance t.below (drop place words)))
 
 -- 2^64 where full, which a u64 cannot hold.
-abbrev pub thresholdValue : Threshold → ℕ
-thresholdValue t = cond t.full (2 ^ 64) t.below
+abbrev pub threshold_value : Threshold → ℕ
+threshold_value t = cond t.full (2 ^ 64) t.below

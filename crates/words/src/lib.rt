@@ -2,8 +2,8 @@
 // hands back the value with the place after it, and a choice also how many words it passed over.
 ghost use Rattle.std.specs.Prelude.{◌≡◌, ◌+◌, ◌*◌, ◌%◌, ◌^◌, ◌<◌, length, drop};
 ghost use Rattle.distr.specs.Words.{word, wide, choose, coin};
-ghost use Rattle.distr.specs.Skipped.{passedOver};
-ghost use Rattle.words.specs.Reading.{taken, told, toldChance};
+ghost use Rattle.distr.specs.Skipped.{passed_over};
+ghost use Rattle.words.specs.Reading.{taken, told, told_chance};
 
 use distr::threshold::Threshold;
 
@@ -82,7 +82,7 @@ fn remainder(word: u32, k: u64) -> u32
 
 // A choice among k. A word w is skipped where its run of k, from w - w % k on, does not end at 2^32 or below: one division for each word.
 pub fn uniform_below(words: &[u32], place: usize, k: u64) -> Taken
-    ensures { result ≡ taken (length words.now) (passedOver k (drop place words.now)) (choose k (drop place words.now)) }
+    ensures { result ≡ taken (length words.now) (passed_over k (drop place words.now)) (choose k (drop place words.now)) }
 {
     if k == 0 {
         return Taken::Short;
@@ -125,7 +125,7 @@ pub fn random_bool(words: &[u32], place: usize) -> Told
 
 // Yes for a 64-bit word below the threshold. The full threshold says yes and hands back the same place, also one past the end.
 pub fn bernoulli(words: &[u32], place: usize, threshold: Threshold) -> Told
-    ensures { result ≡ toldChance words.now place threshold }
+    ensures { result ≡ told_chance words.now place threshold }
 {
     let full = threshold.full;
     let below = threshold.below;

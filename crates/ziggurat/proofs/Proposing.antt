@@ -13,18 +13,18 @@ use lib.ListN.{length, get_or, drop, length-drop, drop_of_length-le}
 use mir.Syntax.{w32, w64}
 use mir.Val.{Fits}
 use mir.Facts.{Fits-widen}
-use Rattle.distr.specs.Words.{Read, got, short, mapRead, bindRead, word, choose, coin}
-use Rattle.distr.specs.Skipped.{passedOver, passedAfter}
-use Rattle.distr.specs.Layered.{passedTry}
-use Rattle.distr.proofs.Reading.{choose-accept, short-not-got, chose}
-use Rattle.distr.proofs.Skipping.{choice-counts}
+use Rattle.distr.specs.Words.{Read, got, short, map_read, bind_read, word, choose, coin}
+use Rattle.distr.specs.Skipped.{passed_over, passed_after}
+use Rattle.distr.specs.Layered.{passed_try}
+use Rattle.distr.proofs.Reading.{choose_accept, short-not-got, chose}
+use Rattle.distr.proofs.Skipping.{choice_counts}
 use Rattle.words.specs.declared.Taken.{Taken}
 use Rattle.words.specs.declared.Taken.TheVariants.{Got as There, Short as Missing}
 use Rattle.words.specs.Reading.{taken}
-use Rattle.words.proofs.Places.{choose-none, coin-there}
-use Rattle.words.proofs.Taking.{took-choice, chosen-below, taken-short}
+use Rattle.words.proofs.Places.{choose_none, coin-there}
+use Rattle.words.proofs.Taking.{took_choice, chosen-below, taken-short}
 use Rattle.ziggurat.specs.declared.sampling.Proposal.TheVariants.{Got, Short}
-use Rattle.ziggurat.specs.Tables.{tables, layerSizes}
+use Rattle.ziggurat.specs.Tables.{tables, layer_sizes}
 use Rattle.ziggurat.specs.Sampling.{Proposed, propose, Proposes, OnLayer}
 
 -- what holds of the three numbers of layers
@@ -43,7 +43,7 @@ masks w = by_size (λ R. (0 < R) × (R * (2 ^ 32 / R) ≡ 2 ^ 32) × (w % R ≡ 
     (lit< tt, refl, sym (and_mask w 7)) (lit< tt, refl, sym (and_mask w 8)) (lit< tt, refl, sym (and_mask w 9))
 
 -- the layer that a word chooses is one of the tables'
-module _ (endpoints : List ℕ) (w : ℕ) (sizes : T (layerSizes endpoints)) where
+module _ (endpoints : List ℕ) (w : ℕ) (sizes : T (layer_sizes endpoints)) where
   some-layer : 0 < length endpoints - 1
   some-layer = (masks w (length endpoints - 1) sizes).0
 
@@ -55,10 +55,10 @@ module _ (endpoints : List ℕ) (w : ℕ) (sizes : T (layerSizes endpoints)) whe
   pub layer-there : bit_and w (length endpoints - 2) + 1 < length endpoints
   layer-there = omega (arith, mod-lt w {m = length endpoints - 1} some-layer, mask, some-layer)
 
-pub two-endpoints : (endpoints : List ℕ) → T (layerSizes endpoints) → 2 ≤ length endpoints
-two-endpoints endpoints sizes = omega (arith, layer-there endpoints 0 sizes)
+pub two_endpoints : (endpoints : List ℕ) → T (layer_sizes endpoints) → 2 ≤ length endpoints
+two_endpoints endpoints sizes = omega (arith, layer-there endpoints 0 sizes)
 
-pub layer_fits : (endpoints : List ℕ) (w : ℕ) → T (layerSizes endpoints) → length endpoints * 8 < 2 ^ 63
+pub layer_fits : (endpoints : List ℕ) (w : ℕ) → T (layer_sizes endpoints) → length endpoints * 8 < 2 ^ 63
     → Fits w64 (bit_and w (length endpoints - 2) + 1)
 layer_fits endpoints w sizes room = record { fits = omega (arith, layer-there endpoints w sizes) }
 
@@ -67,20 +67,20 @@ pub word_fits : (ws : List ℕ) (i : ℕ) → ((j : ℕ) → Fits w32 (get_or ws
 word_fits ws i each = Fits-widen tt (each i)
 
 -- a choice among more than 2^32 accepts no word, so what is chosen has 32 bits too
-choose-far : (k : ℕ) (ws : List ℕ) → 2 ^ 32 < k → choose k ws ≡ short
-choose-far k ws h = choose-none k ws (rw (div-eq_of_lt h) (mul-zero k))
+choose_far : (k : ℕ) (ws : List ℕ) → 2 ^ 32 < k → choose k ws ≡ short
+choose_far k ws h = choose_none k ws (rw (div-eq_of_lt h) (mul-zero k))
 
-among-few : (k m : ℕ) (ws rest : List ℕ) → choose k ws ≡ got m rest → k ≤ 2 ^ 32
-among-few k m ws rest e = go (leb k (2 ^ 32)) refl
+among_few : (k m : ℕ) (ws rest : List ℕ) → choose k ws ≡ got m rest → k ≤ 2 ^ 32
+among_few k m ws rest e = go (leb k (2 ^ 32)) refl
   where
     go : (b : Bool) → leb k (2 ^ 32) ≡ b → k ≤ 2 ^ 32
     go true t = leb-true k (2 ^ 32) t
-    go false t = absurd (short-not-got (sym (choose-far k ws (leb-false k (2 ^ 32) t)) ∙ e))
+    go false t = absurd (short-not-got (sym (choose_far k ws (leb-false k (2 ^ 32) t)) ∙ e))
 
 pub magnitude-fits : (ws : List ℕ) (i k m after skipped : ℕ) (r : Taken) → r ≡ There m after skipped
-    → r ≡ taken (length ws) (passedOver k (drop i ws)) (choose k (drop i ws)) → Fits w32 m
+    → r ≡ taken (length ws) (passed_over k (drop i ws)) (choose k (drop i ws)) → Fits w32 m
 magnitude-fits ws i k m after skipped r e told =
-    let few = among-few k m (drop i ws) (drop after ws) (took-choice ws i m after k (sym e ∙ told)).reads in
+    let few = among_few k m (drop i ws) (drop after ws) (took_choice ws i m after k (sym e ∙ told)).reads in
     record { fits = omega (arith, chosen-below ws i m after k (sym e ∙ told)) }
 
 -- the choice up to an endpoint where the number of choices wraps: it wraps to 0 from 2^64, and among neither is a word accepted
@@ -92,16 +92,16 @@ wrapped end k ws fits wraps = go (ltb (suc end) (2 ^ 64)) refl
     go false t =
         let far : 2 ^ 64 ≤ suc end = ltb-false (suc end) (2 ^ 64) t in
         let none : k ≡ 0 = omega arith in
-        choose-none k ws (rw none) ∙ sym (choose-far (suc end) ws (omega arith))
+        choose_none k ws (rw none) ∙ sym (choose_far (suc end) ws (omega arith))
 
 module _ (endpoints ws : List ℕ) (place : ℕ) where
   -- with fewer than two words left a layer or a sign lacks one
   few : (xs : List ℕ) → length xs < 2 → propose endpoints xs ≡ short
-  unfolding propose bindRead choose coin word mapRead
+  unfolding propose bind_read choose coin word map_read
   few [] h = refl
   few (w ∷ []) h = go (ltb w ((length endpoints - 1) * (2 ^ 32 / (length endpoints - 1)))) (w % (length endpoints - 1)) _ (λ a. refl)
     where
-      go : (b : Bool) (v : ℕ) (next : ℕ → List ℕ → Read Proposed) → ((a : ℕ) → next a [] ≡ short) → bindRead (cond b (got v []) short) next ≡ short
+      go : (b : Bool) (v : ℕ) (next : ℕ → List ℕ → Read Proposed) → ((a : ℕ) → next a [] ≡ short) → bind_read (cond b (got v []) short) next ≡ short
       go true v next none = none v
       go false v next none = refl
   few (w ∷ v ∷ xs) h = absurd (omega arith)
@@ -116,11 +116,11 @@ module _ (endpoints ws : List ℕ) (place : ℕ) where
   end = get_or endpoints (chosen + 1) 0
 
   -- two words give a layer and a sign
-  module _ (sizes : T (layerSizes endpoints)) (two : 2 ≤ length ws - place) (each : (i : ℕ) → Fits w32 (get_or ws i 0)) where
+  module _ (sizes : T (layer_sizes endpoints)) (two : 2 ≤ length ws - place) (each : (i : ℕ) → Fits w32 (get_or ws i 0)) where
     layer : choose (length endpoints - 1) (drop place ws) ≡ got chosen (drop (suc place) ws)
     layer =
         let whole = (masks (get_or ws place 0) (length endpoints - 1) sizes).1 in
-        choose-accept (length endpoints - 1) place ws (omega arith) (rw whole (lt→ltb (get_or ws place 0) (2 ^ 32) (each place).fits))
+        choose_accept (length endpoints - 1) place ws (omega arith) (rw whole (lt→ltb (get_or ws place 0) (2 ^ 32) (each place).fits))
         ∙ ap (λ (c : ℕ). got c (drop (suc place) ws)) (mask endpoints (get_or ws place 0) sizes)
 
     tossed : coin (drop (suc place) ws) ≡ got (leb (2 ^ 31) (get_or ws (place + 1) 0)) (drop (place + 2) ws)
@@ -128,14 +128,14 @@ module _ (endpoints ws : List ℕ) (place : ℕ) where
         rw (add-one place, add-two place) (coin-there ws (suc place) (leb (2 ^ 31) (get_or ws (suc place) 0)) (omega arith) refl)
 
     -- the layer's choice passes over none, so that a try passes over what the magnitude's does
-    passes : passedTry (tables endpoints [] []) (drop place ws) ≡ passedOver (suc end) (drop (place + 2) ws)
-    unfolding passedTry passedAfter
+    passes : passed_try (tables endpoints [] []) (drop place ws) ≡ passed_over (suc end) (drop (place + 2) ws)
+    unfolding passed_try passed_after
     passes =
-        let none = choice-counts (length endpoints - 1) (drop place ws) chosen (drop (suc place) ws) layer in
+        let none = choice_counts (length endpoints - 1) (drop place ws) chosen (drop (suc place) ws) layer in
         rw (layer, tossed) (omega (arith, none, length-drop place ws, length-drop (suc place) ws))
 
     lacking : choose (suc end) (drop (place + 2) ws) ≡ short → Proposes endpoints ws place Short
-    unfolding propose bindRead mapRead
+    unfolding propose bind_read map_read
     lacking e = record { reads = rw (layer, tossed, e); sound = tt }
 
     no_third : length ws - place < 3 → Proposes endpoints ws place Short
@@ -143,7 +143,7 @@ module _ (endpoints ws : List ℕ) (place : ℕ) where
     no_third h = lacking (rw (drop_of_length-le ws {i = place + 2} (omega arith)))
 
   -- a try with fewer than three words left lacks one
-  pub few_words : T (layerSizes endpoints) → ((i : ℕ) → Fits w32 (get_or ws i 0)) → length ws - place < 3 → Proposes endpoints ws place Short
+  pub few_words : T (layer_sizes endpoints) → ((i : ℕ) → Fits w32 (get_or ws i 0)) → length ws - place < 3 → Proposes endpoints ws place Short
   few_words sizes each h = go (leb 2 (length ws - place)) refl
     where
       go : (b : Bool) → leb 2 (length ws - place) ≡ b → Proposes endpoints ws place Short
@@ -151,34 +151,34 @@ module _ (endpoints ws : List ℕ) (place : ℕ) where
       go false t = too_few (leb-false 2 (length ws - place) t)
 
   -- the third gives the magnitude
-  module _ (sizes : T (layerSizes endpoints)) (three : 3 ≤ length ws - place) (each : (i : ℕ) → Fits w32 (get_or ws i 0)) where
+  module _ (sizes : T (layer_sizes endpoints)) (three : 3 ≤ length ws - place) (each : (i : ℕ) → Fits w32 (get_or ws i 0)) where
     two : 2 ≤ length ws - place
     two = omega arith
 
     -- the magnitude, as it was taken by a choice among k, which is one more than the endpoint, and wraps
     module _ (k : ℕ) (fits : (i : ℕ) → Fits w64 (get_or endpoints i 0)) (wraps : k ≡ (end + 1) % 2 ^ 64) (r : Taken)
-        (told : r ≡ taken (length ws) (passedOver k (drop (place + 2) ws)) (choose k (drop (place + 2) ws))) where
+        (told : r ≡ taken (length ws) (passed_over k (drop (place + 2) ws)) (choose k (drop (place + 2) ws))) where
       same : choose k (drop (place + 2) ws) ≡ choose (suc end) (drop (place + 2) ws)
       same = wrapped end k (drop (place + 2) ws) (fits (chosen + 1)) wraps
 
-      pub no-magnitude : r ≡ Missing → Proposes endpoints ws place Short
-      no-magnitude e = lacking sizes two each (sym same ∙ taken-short (length ws) (passedOver k (drop (place + 2) ws)) _ (sym e ∙ told))
+      pub no_magnitude : r ≡ Missing → Proposes endpoints ws place Short
+      no_magnitude e = lacking sizes two each (sym same ∙ taken-short (length ws) (passed_over k (drop (place + 2) ws)) _ (sym e ∙ told))
 
       module _ (m after skipped : ℕ) (e : r ≡ There m after skipped) where
         pub all_three :
             Proposes endpoints ws place (Got (record { layer = chosen + 1; positive = leb (2 ^ 31) (get_or ws (place + 1) 0); magnitude = m; place = after }))
-        unfolding propose bindRead mapRead
+        unfolding propose bind_read map_read
         all_three =
-            let took = took-choice ws (place + 2) m after k (sym e ∙ told) in
+            let took = took_choice ws (place + 2) m after k (sym e ∙ told) in
             let read : choose (suc end) (drop (place + 2) ws) ≡ got m (drop after ws) = sym same ∙ took.reads in
-            let few = among-few (suc end) m (drop (place + 2) ws) (drop after ws) read in
+            let few = among_few (suc end) m (drop (place + 2) ws) (drop after ws) read in
             let on : OnLayer endpoints (chosen + 1) m = record {
               some = omega arith;
               there = layer-there endpoints (get_or ws place 0) sizes;
               below = omega (arith, (chose (suc end) (drop (place + 2) ws) m (drop after ws) read).below);
               small = omega arith;
             } in
-            let count = choice-counts (suc end) (drop (place + 2) ws) m (drop after ws) read in
+            let count = choice_counts (suc end) (drop (place + 2) ws) m (drop after ws) read in
             record {
               reads = rw (layer sizes two each, tossed sizes two each, read);
               sound =

@@ -14,30 +14,30 @@ use lib.Ieee.Scale.{finite}
 use lib.ListN.{length, get_or}
 use Rattle.distr.specs.declared.threshold.Threshold.{Threshold}
 use Rattle.distr.specs.Constants.{literal}
-use Rattle.distr.specs.Layered.{Layers, inUnit, layerTables, zeroThreshold}
+use Rattle.distr.specs.Layered.{Layers, in_unit, layer_tables, zero_threshold}
 use Rattle.distr.specs.Thresholds.{threshold}
-use Rattle.distr.specs.Making.{badProbability}
+use Rattle.distr.specs.Making.{bad_probability}
 use Rattle.distr.proofs.Reading.{and_both, T_true}
-use Rattle.words.specs.Reading.{thresholdValue}
+use Rattle.words.specs.Reading.{threshold_value}
 use Rattle.probability.proofs.Made.{flagged-value, made-threshold}
-use Rattle.distr.proofs.FirstWrong.{getD-there}
-use Rattle.ziggurat.specs.Sampling.{zeroOver}
-use Rattle.ziggurat.proofs.LayerTables.{some-layers, heights-count, first-finite, first-high}
+use Rattle.distr.proofs.FirstWrong.{get_d_there}
+use Rattle.ziggurat.specs.Sampling.{zero_over}
+use Rattle.ziggurat.proofs.LayerTables.{some-layers, heights_count, first-finite, first-high}
 
 -- what lies between 0 and 1 is finite
-unit-finite : (p : Float) → T (le (literal 0 1) p) → T (le p (literal 1 1)) → T (finite p)
+unit_finite : (p : Float) → T (le (literal 0 1) p) → T (le p (literal 1 1)) → T (finite p)
 unfolding le lt round
-unit-finite nan low high = absurd high
-unit-finite (inf true) low high = absurd low
-unit-finite (inf false) low high = absurd high
-unit-finite (fin s m e) low high = tt
+unit_finite nan low high = absurd high
+unit_finite (inf true) low high = absurd low
+unit_finite (inf false) low high = absurd high
+unit_finite (fin s m e) low high = tt
 
-good : (p : Float) → T (le (literal 0 1) p) → T (le p (literal 1 1)) → badProbability p ≡ false
+good : (p : Float) → T (le (literal 0 1) p) → T (le p (literal 1 1)) → bad_probability p ≡ false
 good p low high =
     let unit = and_both (le (literal 0 1) p) (le p (literal 1 1)) low high in
-    rw (T_true (finite p && inUnit p) (and_both (finite p) (inUnit p) (unit-finite p low high) unit))
+    rw (T_true (finite p && in_unit p) (and_both (finite p) (in_unit p) (unit_finite p low high) unit))
 
-pub half_over : (h : Float) → T (finite h) → T (lt (literal 999 1000) h) → badProbability (div binary64 (literal 1 2) h) ≡ false
+pub half_over : (h : Float) → T (finite h) → T (lt (literal 999 1000) h) → bad_probability (div binary64 (literal 1 2) h) ≡ false
 unfolding lt round div
 half_over nan f t = absurd f
 half_over (inf s) f t = absurd f
@@ -52,15 +52,15 @@ half_over (fin false m e) f t =
     (round_mono binary64 (1 * down e) (m * up e * 2) 1 1 over (zero-lt-suc 0) (omega arith)))
 
 -- good tables have a first height, and the threshold made by it is that of zero
-module _ (M : ℕ) (t : Layers) (good-tables : T (layerTables M t)) where
+module _ (M : ℕ) (t : Layers) (good-tables : T (layer_tables M t)) where
   pub first-there : 0 < length t.heights
-  first-there = omega (arith, heights-count M t good-tables, some-layers M t good-tables)
+  first-there = omega (arith, heights_count M t good-tables, some-layers M t good-tables)
 
-  pub zero-made : {made : Threshold} → made ≡ zeroOver (get_or t.heights 0 nan) → thresholdValue made ≡ zeroThreshold t
+  pub zero-made : {made : Threshold} → made ≡ zero_over (get_or t.heights 0 nan) → threshold_value made ≡ zero_threshold t
   zero-made e =
       let first = get_or t.heights 0 (literal 0 1) in
       let p = div binary64 (literal 1 2) first in
-      ap thresholdValue e
-      ∙ ap (λ (h : Float). thresholdValue (zeroOver h)) (getD-there t.heights 0 nan (literal 0 1) first-there)
-      ∙ ap thresholdValue (made-threshold p (half_over first (first-finite M t good-tables) (first-high M t good-tables)))
+      ap threshold_value e
+      ∙ ap (λ (h : Float). threshold_value (zero_over h)) (get_d_there t.heights 0 nan (literal 0 1) first-there)
+      ∙ ap threshold_value (made-threshold p (half_over first (first-finite M t good-tables) (first-high M t good-tables)))
       ∙ flagged-value (threshold p)

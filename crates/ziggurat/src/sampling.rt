@@ -1,7 +1,7 @@
 // A try, as in `sample`: what a proposal and its judging are, whatever the type of the output.
 ghost use Rattle.std.specs.Prelude.{◌≡◌};
-ghost use Rattle.words.specs.Reading.{thresholdValue};
-ghost use Rattle.ziggurat.specs.Sampling.{edgeWords, zeroOver};
+ghost use Rattle.words.specs.Reading.{threshold_value};
+ghost use Rattle.ziggurat.specs.Sampling.{edge_words, zero_over};
 
 use distr::threshold::Threshold;
 
@@ -30,7 +30,7 @@ pub enum Attempted {
 
 // How many words the judging reads of a magnitude that is not inside: one on the edge; for 0 the two of its threshold, none where it is full.
 pub fn edge_words(zero: Threshold, magnitude: u32) -> usize
-    ensures { result ≡ edgeWords (thresholdValue zero) magnitude }
+    ensures { result ≡ edge_words (threshold_value zero) magnitude }
 {
     if magnitude != 0 {
         return 1;
@@ -43,7 +43,7 @@ pub fn edge_words(zero: Threshold, magnitude: u32) -> usize
 
 // The threshold by which magnitude 0 passes: that of 0.5 over the first height. Zero is shared by both signs.
 pub fn zero_threshold(first_height: f64) -> Threshold
-    ensures { result ≡ zeroOver first_height }
+    ensures { result ≡ zero_over first_height }
 {
     let made = probability::threshold_of(0.5 / first_height);
     made.threshold

@@ -1,10 +1,10 @@
 // A try, as in `sample`: a proposal and its judging. Nothing here knows the type of the output.
 ghost use Rattle.std.specs.Prelude.{◌≡◌, ◌+◌, ◌≤◌, T, length, drop};
 ghost use Rattle.distr.specs.Words.{got};
-ghost use Rattle.distr.specs.Layered.{zeroThreshold};
-ghost use Rattle.words.specs.Reading.{thresholdValue};
-ghost use Rattle.ziggurat.specs.Tables.{tables, layerSizes};
-ghost use Rattle.ziggurat.specs.Sampling.{Proposes, OnLayer, OnTables, isInside, edgeWords, Attempts, judgeEdge};
+ghost use Rattle.distr.specs.Layered.{zero_threshold};
+ghost use Rattle.words.specs.Reading.{threshold_value};
+ghost use Rattle.ziggurat.specs.Tables.{tables, layer_sizes};
+ghost use Rattle.ziggurat.specs.Sampling.{Proposes, OnLayer, OnTables, is_inside, edge_words, Attempts, judge_edge};
 
 use crate::layer;
 use distr::threshold::Threshold;
@@ -15,7 +15,7 @@ use ziggurat::sampling::{Attempted, Proposal, Trial, edge_words};
 // masks a word and skips none. The coin is compared and not branched on. Each of the three reads a word: with fewer than
 // three left one is lacking. An endpoint of 2^32 or more, among which no choice can be made, is left to the choice, which then lacks a word.
 fn propose(endpoints: &[u64], words: &[u32], place: usize) -> Proposal
-    requires t { T (layerSizes endpoints.now) }
+    requires t { T (layer_sizes endpoints.now) }
     requires place_in_bounds { place ≤ length words.now }
     ensures { Proposes endpoints.now words.now place result }
 {
@@ -44,7 +44,7 @@ fn propose(endpoints: &[u64], words: &[u32], place: usize) -> Proposal
 // Whether a magnitude is inside the layer above, where it passes without a word. The endpoints are compared as integers.
 fn inside(endpoints: &[u64], layer: usize, magnitude: u32) -> bool
     requires { OnLayer endpoints.now layer magnitude }
-    ensures { result ≡ isInside endpoints.now layer magnitude }
+    ensures { result ≡ is_inside endpoints.now layer magnitude }
 {
     (magnitude as u64 <= endpoints[layer - 1]) & (0 < magnitude)
 }
@@ -52,9 +52,9 @@ fn inside(endpoints: &[u64], layer: usize, magnitude: u32) -> bool
 // A proposal, and whether the words that its judging reads are there. Inside the layer above it reads none, and a branch tells so: where the
 // next try begins is then known before the division that gave the magnitude is done.
 pub(crate) fn attempt(endpoints: &[u64], zero: Threshold, words: &[u32], place: usize) -> Attempted
-    requires t { T (layerSizes endpoints.now) }
+    requires t { T (layer_sizes endpoints.now) }
     requires place_in_bounds { place ≤ length words.now }
-    ensures { Attempts endpoints.now (thresholdValue zero) words.now place result }
+    ensures { Attempts endpoints.now (threshold_value zero) words.now place result }
 {
     let Proposal::Got(tried) = propose(endpoints, words, place) else {
         return Attempted::Short;
@@ -83,10 +83,10 @@ pub(crate) fn passes_edge(
     place: usize,
 ) -> bool
     requires on_tables { OnTables (tables endpoints.now heights.now curve.now) layer magnitude }
-    requires zero_value { thresholdValue zero ≡ zeroThreshold (tables endpoints.now heights.now curve.now) }
-    requires magnitude_in_bounds { place + edgeWords (thresholdValue zero) magnitude ≤ length words.now }
-    ensures { judgeEdge deviation (tables endpoints.now heights.now curve.now) layer magnitude
-        (drop place words.now) ≡ got result (drop (place + edgeWords (thresholdValue zero) magnitude) words.now) }
+    requires zero_value { threshold_value zero ≡ zero_threshold (tables endpoints.now heights.now curve.now) }
+    requires magnitude_in_bounds { place + edge_words (threshold_value zero) magnitude ≤ length words.now }
+    ensures { judge_edge deviation (tables endpoints.now heights.now curve.now) layer magnitude
+        (drop place words.now) ≡ got result (drop (place + edge_words (threshold_value zero) magnitude) words.now) }
 {
     if magnitude == 0 {
         if zero.full {

@@ -1,6 +1,6 @@
 // A layer taken out of the lent tables.
 ghost use Rattle.std.specs.Prelude.{◌≡◌, ◌-◌, ◌^◌, ◌<◌, [], length, slice_index};
-ghost use Rattle.edge.specs.Edge.{layerAt};
+ghost use Rattle.edge.specs.Edge.{layer_at};
 ghost use Rattle.ziggurat.specs.Tables.{tables};
 
 use edge::Layer;
@@ -9,7 +9,7 @@ use edge::Layer;
 pub(crate) fn layer_at(endpoints: &[u64], heights: &[f64], i: usize) -> Layer
     requires i_nonzero { (0 < i) × (i < length endpoints.now) × (i < length heights.now) }
     requires i_bound { (slice_index endpoints.now i < 2 ^ 32) × (slice_index endpoints.now (i - 1) < 2 ^ 32) }
-    ensures { result ≡ layerAt (tables endpoints.now heights.now []) i }
+    ensures { result ≡ layer_at (tables endpoints.now heights.now []) i }
 {
     let above = heights[i - 1];
     let top = if i == 1 { 1.0 } else { above };

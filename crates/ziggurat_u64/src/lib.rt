@@ -3,9 +3,9 @@
 ghost use Rattle.std.specs.Prelude.{◌≡◌, length, drop};
 ghost use Rattle.distr.specs.Draw.{outcome};
 ghost use Rattle.distr.specs.Answers.{sums, reported};
-ghost use Rattle.distr.specs.Skipped.{skippedWords};
-ghost use Rattle.distr.specs.Layered.{passedLayered};
-ghost use Rattle.ziggurat.specs.Tables.{tables, layeredDraw};
+ghost use Rattle.distr.specs.Skipped.{skipped_words};
+ghost use Rattle.distr.specs.Layered.{passed_layered};
+ghost use Rattle.ziggurat.specs.Tables.{tables, layered_draw};
 ghost use Rattle.output_u64.specs.Out.{held};
 
 use distr::answer::{Answer, refused, refused_at, succeeded_after};
@@ -34,9 +34,9 @@ pub fn sample_ziggurat_to(
     words: &[u32],
     place: usize,
 ) -> Answer
-    ensures output_after { outcome result output.new ≡ layeredDraw (held encoding) parameters
+    ensures output_after { outcome result output.new ≡ layered_draw (held encoding) parameters
         (tables endpoints.now heights.now curve.now) words.now place output.old }
-    ensures result_value { sums result ≡ reported result.number (skippedWords (passedLayered parameters.standard_deviation
+    ensures result_value { sums result ≡ reported result.number (skipped_words (passed_layered parameters.standard_deviation
         (tables endpoints.now heights.now curve.now) (length output.old) (drop place words.now))) }
 {
     let fault = check_layer_tables(parameters.maximum_magnitude, endpoints, heights, curve);

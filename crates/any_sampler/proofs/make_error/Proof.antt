@@ -1,7 +1,7 @@
 -- `make_error` hands back the number of making, or the method of the sampler that is made.
 use mathlib.Core.Path.{◌∙◌}
 use borrow.Author.Rules.{rules}
-use Rattle.error_sampler.proofs.Made.{made-refused, made-method-of}
+use Rattle.error_sampler.proofs.Made.{made-refused, made-method_of}
 use Rattle.any_sampler.proofs.make_error.Statement.{statement}
 use Rattle.any_sampler.proofs.make_error.Tie as tie
 
@@ -13,7 +13,7 @@ returns c =
 returns-2 : tie.Need-returns-2
 returns-2 c =
     let made = c.before.before.before in
-    c.prepared.ensures ∙ made-method-of made.before.args.distribution made.try-new.ensures c.before.before.if1.false
+    c.prepared.ensures ∙ made-method_of made.before.args.distribution made.try-new.ensures c.before.before.if1.false
 
-pub make-error-spec : {M : Type 1} → statement M
-make-error-spec = tie.close (tie.spec (λ c κs. search rules) (λ c κs. search rules) returns (λ c κs. search rules) returns-2)
+pub make_error_spec : {M : Type 1} → statement M
+make_error_spec = tie.close (tie.spec (λ c κs. search rules) (λ c κs. search rules) returns (λ c κs. search rules) returns-2)

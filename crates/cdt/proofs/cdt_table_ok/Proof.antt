@@ -21,5 +21,5 @@ rising-ok-requires c κs = search rules
 returns-2 : tie.Need-returns-2
 returns-2 c = search rules
 
-pub cdt-table-ok-spec : {M : Type 1} → statement M
-cdt-table-ok-spec = tie.close (tie.spec returns add-rising-ok rising-ok-requires returns-2)
+pub cdt_table_ok_spec : {M : Type 1} → statement M
+cdt_table_ok_spec = tie.close (tie.spec returns add-rising-ok rising-ok-requires returns-2)

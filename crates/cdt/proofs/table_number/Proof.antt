@@ -12,5 +12,5 @@ returns c = rw (← c.before.cdt-table-ok.ensures, c.if1.true)
 returns-2 : tie.Need-returns-2
 returns-2 c = rw (← c.before.cdt-table-ok.ensures, c.if1.false)
 
-pub table-number-spec : {M : Type 1} → statement M
-table-number-spec = tie.close (tie.spec cdt-table-ok-requires returns returns-2)
+pub table_number_spec : {M : Type 1} → statement M
+table_number_spec = tie.close (tie.spec cdt-table-ok-requires returns returns-2)

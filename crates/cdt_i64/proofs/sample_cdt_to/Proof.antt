@@ -1,9 +1,9 @@
 -- `sample_cdt_to` draws by the rule of its table: the table's number and the answer, then the loop that writes or the one that clears.
 use mathlib.Core.Path.{refl, sym}
 use borrow.Author.Rules.{rules}
-use Rattle.distr.proofs.Writing.{map-id}
-use Rattle.numbers.proofs.WideDraws.{answer-reports}
-use Rattle.cdt.proofs.Drawing.{cdt-ready, cdt-cleared, cdt-refused, cdt-read}
+use Rattle.distr.proofs.Writing.{map_id}
+use Rattle.numbers.proofs.WideDraws.{answer_reports}
+use Rattle.cdt.proofs.Drawing.{cdt_ready, cdt_cleared, cdt_refused, cdt_read}
 use Rattle.cdt_i64.proofs.sample_cdt_to.Statement.{statement}
 use Rattle.cdt_i64.proofs.sample_cdt_to.Tie as tie
 
@@ -11,7 +11,7 @@ fill-requires : tie.Need-fill-requires
 fill-requires c κs =
     let told = c.before.before.before in
     let a = told.before.before.before.before.args in
-    cdt-ready (λ cs. cs) (λ x. x) (λ cs. sym (map-id cs)) a.maximum-magnitude a.bounds.now a.words.now a.place a.output.now
+    cdt_ready (λ cs. cs) (λ x. x) (λ cs. sym (map_id cs)) a.maximum-magnitude a.bounds.now a.words.now a.place a.output.now
     told.before.table-number.ensures
     told.answer-of.ensures c.before.if1.true
 
@@ -20,34 +20,34 @@ returns c =
     let told = c.before.before.before.before.before in
     let start = told.before.before in
     let a = start.before.before.args in (
-      cdt-read (λ cs. cs) (λ x. x) (λ cs. sym (map-id cs)) a.maximum-magnitude a.bounds.now a.words.now a.place a.output.now
+      cdt_read (λ cs. cs) (λ x. x) (λ cs. sym (map_id cs)) a.maximum-magnitude a.bounds.now a.words.now a.place a.output.now
           told.before.table-number.ensures
           told.answer-of.ensures c.before.before.before.if1.true (λ i. (start.shared-slice-known2.given i).fits) c.before.fill.ensures,
-      answer-reports _ _ _ _ _ told.answer-of.ensures refl,
+      answer_reports _ _ _ _ _ told.answer-of.ensures refl,
     )
 
 returns-2 : tie.Need-returns-2
 returns-2 c =
     let told = c.before.before.before.before.before.before.before in
     let a = told.before.before.before.before.args in (
-      cdt-cleared (λ cs. cs) (λ x. x) (λ cs. sym (map-id cs)) a.maximum-magnitude a.bounds.now a.words.now a.place a.output.now
+      cdt_cleared (λ cs. cs) (λ x. x) (λ cs. sym (map_id cs)) a.maximum-magnitude a.bounds.now a.words.now a.place a.output.now
           told.before.table-number.ensures
           told.answer-of.ensures c.before.before.before.if2.true c.before.clear.ensures,
-      answer-reports _ _ _ _ _ told.answer-of.ensures refl,
+      answer_reports _ _ _ _ _ told.answer-of.ensures refl,
     )
 
 returns-3 : tie.Need-returns-3
 returns-3 c =
     let told = c.before.before.before.before in
     let a = told.before.before.before.before.args in (
-      cdt-refused (λ cs. cs) (λ x. x) (λ cs. sym (map-id cs)) a.maximum-magnitude a.bounds.now a.words.now a.place a.output.now
+      cdt_refused (λ cs. cs) (λ x. x) (λ cs. sym (map_id cs)) a.maximum-magnitude a.bounds.now a.words.now a.place a.output.now
           told.before.table-number.ensures
           told.answer-of.ensures c.if2.false c.before.before.if1.false refl,
-      answer-reports _ _ _ _ _ told.answer-of.ensures refl,
+      answer_reports _ _ _ _ _ told.answer-of.ensures refl,
     )
 
-pub sample-cdt-to-spec : {M : Type 1} → statement M
-sample-cdt-to-spec =
+pub sample_cdt_to_spec : {M : Type 1} → statement M
+sample_cdt_to_spec =
     tie.close
     (tie.spec (λ c κs. search rules) (λ c κs. search rules) fill-requires (λ c. search rules) returns (λ c κs. search rules) (λ c. search rules)
     returns-2 returns-3)

@@ -1,6 +1,6 @@
 -- Whether making gives these parameters: making the eta again gives the mask.
 use borrow.Author.Rules.{rules}
-use Rattle.centered_binomial.proofs.Made.{made-test}
+use Rattle.centered_binomial.proofs.Made.{made_test}
 use Rattle.centered_binomial.proofs.is_made.Statement.{statement}
 use Rattle.centered_binomial.proofs.is_made.Tie as tie
 
@@ -10,7 +10,7 @@ new-requires c κs = search rules
 returns : tie.Need-returns
 returns c =
     let args = c.before.before.before.before.args in
-    rw c.before.before.before.new.ensures (made-test args.parameters)
+    rw c.before.before.before.new.ensures (made_test args.parameters)
 
-pub is-made-spec : {M : Type 1} → statement M
-is-made-spec = tie.close (tie.spec new-requires returns)
+pub is_made_spec : {M : Type 1} → statement M
+is_made_spec = tie.close (tie.spec new-requires returns)

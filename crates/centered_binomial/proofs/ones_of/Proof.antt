@@ -6,5 +6,5 @@ use Rattle.centered_binomial.proofs.ones_of.Tie as tie
 returns : tie.Need-returns
 returns c = (refl, refl)
 
-pub ones-of-spec : {M : Type 1} → statement M
-ones-of-spec = tie.close (tie.spec returns)
+pub ones_of_spec : {M : Type 1} → statement M
+ones_of_spec = tie.close (tie.spec returns)

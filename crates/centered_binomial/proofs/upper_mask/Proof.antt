@@ -4,7 +4,7 @@ use mathlib.Core.Bool.{true}
 use native.Mathlib.Omega.{arith}
 use borrow.Author.Rules.{rules}
 use borrow.Author.Tests.{not-true, not-false}
-use Rattle.centered_binomial.specs.Binomial.{isMadeBinomial}
+use Rattle.centered_binomial.specs.Binomial.{is_made_binomial}
 use Rattle.centered_binomial.proofs.Made.{made-small}
 use Rattle.centered_binomial.proofs.Counting.{upper_fits}
 use Rattle.centered_binomial.proofs.upper_mask.Statement.{statement}
@@ -17,7 +17,7 @@ returns : tie.Need-returns
 returns c = rw (sym c.before.is_made.ensures ∙ not-true c.before.is_made.result c.if1.true)
 
 -- past the test the parameters are those that making gives
-made : (c : tie.Else1) → isMadeBinomial c.before.before.args.parameters ≡ true
+made : (c : tie.Else1) → is_made_binomial c.before.before.args.parameters ≡ true
 made c = sym c.before.is_made.ensures ∙ not-false c.before.is_made.result c.if1.false
 
 cast-result : tie.Need-overflow-cast-result
@@ -31,5 +31,5 @@ shl-result c =
 returns-2 : tie.Need-returns-2
 returns-2 c = let s = c.before.before in rw (made s) (upper_fits s.before.before.args.parameters (made s))
 
-pub upper-mask-spec : {M : Type 1} → statement M
-upper-mask-spec = tie.close (tie.spec is-made-requires returns cast-result shl-result returns-2)
+pub upper_mask_spec : {M : Type 1} → statement M
+upper_mask_spec = tie.close (tie.spec is-made-requires returns cast-result shl-result returns-2)

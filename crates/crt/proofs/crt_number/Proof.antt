@@ -1,8 +1,8 @@
 -- `crt_number` judges the shape first, and leaves the order of the rest to `draw_number`.
 use Rattle.std.proofs.Common.{◌≡◌, ℕ, zero, suc, List, [], ◌∷◌, length, sym, refl, ◌∙◌, arith, rules}
-use Rattle.distr.specs.Numbers.{first_of, pastEnd, shapeNumber, tooLong, moduliNumbers}
+use Rattle.distr.specs.Numbers.{first_of, past_end, shape_number, too_long, moduli_numbers}
 use Rattle.draw_laws.proofs.Joining.{first_alone}
-use Rattle.draw_laws.proofs.Crt.{shape-good, shape-bad}
+use Rattle.draw_laws.proofs.Crt.{shape_good, shape_bad}
 use Rattle.crt.proofs.crt_number.Statement.{statement}
 use Rattle.crt.proofs.crt_number.Tie as tie
 
@@ -14,7 +14,7 @@ last-joined zero (suc b) ns = refl
 last-joined (suc a) b ns = refl
 
 -- 0 is not too long, and 11 comes before all that follows
-shape-first : (a : ℕ) (ns : List ℕ) → first_of (a ∷ tooLong 0 ∷ 11 ∷ []) ≡ first_of (a ∷ 11 ∷ ns)
+shape-first : (a : ℕ) (ns : List ℕ) → first_of (a ∷ too_long 0 ∷ 11 ∷ []) ≡ first_of (a ∷ 11 ∷ ns)
 unfolding first_of
 shape-first zero ns = refl
 shape-first (suc a) ns = refl
@@ -30,19 +30,19 @@ returns c =
     let asked = c.before in
     let at = asked.before in
     let a = at.before.before.before.args in
-    let shaped : shapeNumber a.n a.coefficient-count (length a.moduli.now) ≡ 0 =
-    shape-good a.n _ _ (omega arith) (sym at.before.has-shape.ensures ∙ at.if1.true) in
+    let shaped : shape_number a.n a.coefficient-count (length a.moduli.now) ≡ 0 =
+    shape_good a.n _ _ (omega arith) (sym at.before.has-shape.ensures ∙ at.if1.true) in
     c.draw-number.ensures
-    ∙ rw (asked.moduli-number.ensures, shaped) (last-joined (pastEnd a.words a.place) (tooLong a.n) _ ∙ nothing-between (pastEnd a.words a.place) _)
+    ∙ rw (asked.moduli-number.ensures, shaped) (last-joined (past_end a.words a.place) (too_long a.n) _ ∙ nothing-between (past_end a.words a.place) _)
 
 returns-2 : tie.Need-returns-2
 returns-2 c =
     let at = c.before in
     let a = at.before.before.before.args in
     c.draw-number2.ensures
-    ∙ rw (shape-bad a.n _ _ (sym at.before.has-shape.ensures ∙ at.if1.false)) (shape-first (pastEnd a.words a.place) _)
+    ∙ rw (shape_bad a.n _ _ (sym at.before.has-shape.ensures ∙ at.if1.false)) (shape-first (past_end a.words a.place) _)
 
-pub crt-number-spec : {M : Type 1} → statement M
-crt-number-spec =
+pub crt_number_spec : {M : Type 1} → statement M
+crt_number_spec =
     tie.close
     (tie.spec (λ c κs. search rules) (λ c κs. search rules) (λ c κs. search rules) returns (λ c κs. search rules) returns-2)

@@ -1,6 +1,6 @@
 -- `crt_row` hands back the row's part of the output, or the empty part at the output's start.
 use Rattle.std.proofs.Common.{◌≤◌, length, refl, arith, rules}
-use Rattle.crt.proofs.RowPart.{range-order, range_inside, part-row}
+use Rattle.crt.proofs.RowPart.{range_order, range_inside, part-row}
 use Rattle.crt.proofs.crt_row.Statement.{statement}
 use Rattle.crt.proofs.crt_row.Tie as tie
 
@@ -9,11 +9,11 @@ inside : (c : tie.After-crt-row-range) → c.crt-row-range.result.end ≤ length
 inside c = range_inside _ _ _ _ c.crt-row-range.ensures
 
 part-result-start : tie.Need-slice-bounds-result-start
-part-result-start c = let a = c.before.before.args in range-order (length a.output.now) a.coefficient-count a.moduli-count a.i c.crt-row-range.ensures
+part-result-start c = let a = c.before.before.args in range_order (length a.output.now) a.coefficient-count a.moduli-count a.i c.crt-row-range.ensures
 
 returns : tie.Need-returns
 returns c = part-row _ _ _ _ _ c.before.crt-row-range.ensures (record { contents = refl; block = refl; offset = omega arith })
 
-pub crt-row-spec : {M : Type 1} → statement M
-crt-row-spec =
+pub crt_row_spec : {M : Type 1} → statement M
+crt_row_spec =
     tie.close (tie.spec (λ c κs. search rules) (λ c. omega (arith, inside c, part-result-start c)) part-result-start part-result-start inside returns)

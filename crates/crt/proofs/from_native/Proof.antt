@@ -15,5 +15,5 @@ returns c =
     let a = c.before.args in
     c.wrapping-add-u64.ensures ∙ added (2 ^ 63) a.modulus a.word (omega arith) (omega arith)
 
-pub from-native-spec : {M : Type 1} → statement M
-from-native-spec = tie.close (tie.spec mul-wrapping-add-u64 wrapping-add-u64-requires returns)
+pub from_native_spec : {M : Type 1} → statement M
+from_native_spec = tie.close (tie.spec mul-wrapping-add-u64 wrapping-add-u64-requires returns)

@@ -1,11 +1,11 @@
 -- `has_shape` compares quotient and remainder, where the product need not fit.
 use Rattle.std.proofs.Common.{arith, rules}
-use Rattle.crt.proofs.Shape.{shape-none, shape-divided}
+use Rattle.crt.proofs.Shape.{shape_none, shape_divided}
 use Rattle.crt.proofs.has_shape.Statement.{statement}
 use Rattle.crt.proofs.has_shape.Tie as tie
 
 returns : tie.Need-returns
-returns c = let a = c.before.args in shape-none a.n a.coefficient-count a.rows c.if1.true
+returns c = let a = c.before.args in shape_none a.n a.coefficient-count a.rows c.if1.true
 
 div-result : tie.Need-nonzero-div-result
 div-result c = search rules
@@ -14,7 +14,7 @@ rem-result : tie.Need-nonzero-rem-result
 rem-result c = search rules
 
 returns-2 : tie.Need-returns-2
-returns-2 c = let a = c.before.args in shape-divided a.n a.coefficient-count a.rows (omega arith)
+returns-2 c = let a = c.before.args in shape_divided a.n a.coefficient-count a.rows (omega arith)
 
-pub has-shape-spec : {M : Type 1} → statement M
-has-shape-spec = tie.close (tie.spec returns div-result rem-result returns-2)
+pub has_shape_spec : {M : Type 1} → statement M
+has_shape_spec = tie.close (tie.spec returns div-result rem-result returns-2)

@@ -1,13 +1,13 @@
 -- `make_row` makes a row from the last one: after c turns its first c elements are made.
 use Rattle.std.proofs.Common.{◌-◌, ◌≤◌, length, le_antisymm, arith, rules}
-use Rattle.crt.specs.Rows.{fromNative}
+use Rattle.crt.specs.Rows.{from_native}
 use Rattle.crt.proofs.RowMaking.{Made, made_none, made_more, made-length}
 use Rattle.crt.proofs.make_row.Statement.{statement}
 use Rattle.crt.proofs.make_row.Tie as tie
 
 abbrev invariant-loop : tie.invariant-loop
 invariant-loop output₀ at last modulus count c₀ output c =
-    (c ≤ count) × (before : at ≤ last) × (inside : last ≤ length output₀) × Made (fromNative modulus) output₀ at last before inside c output
+    (c ≤ count) × (before : at ≤ last) × (inside : last ≤ length output₀) × Made (from_native modulus) output₀ at last before inside c output
 
 abbrev decreases-loop : tie.decreases-loop
 decreases-loop output₀ at last modulus count c₀ output c = count - c
@@ -46,8 +46,8 @@ same_length c = made-length _ _ _ _ _ _ c.before.loop.invariant.0 c.before.loop.
 returns : tie.Need-returns invariant-loop decreases-loop
 returns c = rw (le_antisymm c.loop-test.false c.before.loop.invariant.0) c.before.loop.invariant.3.holds
 
-pub make-row-spec : {M : Type 1} → statement M
-make-row-spec =
+pub make_row_spec : {M : Type 1} → statement M
+make_row_spec =
     tie.close
     (tie.spec invariant-loop decreases-loop (λ c. omega arith) loop-holds (λ c. omega arith) mul-word slice-read-word (λ c κs. search rules) (λ c. omega arith)
     mul-output slice-write-output (λ c. omega arith) (λ c. omega arith) loop-again same_length returns)

@@ -1,7 +1,7 @@
 -- `spread_rows` makes the rows one after the other: after i turns the first i are made.
 use Rattle.std.proofs.Common.{◌≡◌, ◌+◌, ◌-◌, ◌*◌, ◌^◌, ◌≤◌, length, sym, refl, ◌∙◌, zero-mul, arith, rules, eqb-true}
 use Rattle.crt.proofs.Shape.{row_inside, next_row}
-use Rattle.crt.proofs.Spreading.{Spread, spread_none, spread-more, spread-all, spread-other, spread-no-moduli}
+use Rattle.crt.proofs.Spreading.{Spread, spread_none, spread_more, spread-all, spread-other, spread_no_moduli}
 use Rattle.crt.proofs.spread_rows.Statement.{statement}
 use Rattle.crt.proofs.spread_rows.Tie as tie
 
@@ -13,7 +13,7 @@ abbrev decreases-loop : tie.decreases-loop
 decreases-loop output₀ count moduli n rows last at₀ i₀ output at i = rows - i
 
 returns : tie.Need-returns invariant-loop decreases-loop
-returns c = let a = c.before.before.before.args in spread-no-moduli (2 ^ 63) a.output.now a.coefficient-count a.moduli.now c.if1.true
+returns c = let a = c.before.before.before.args in spread_no_moduli (2 ^ 63) a.output.now a.coefficient-count a.moduli.now c.if1.true
 
 -- the shape, where the test held
 shaped : (c : tie.Then2 invariant-loop decreases-loop) → let a = c.before.before.before.before.before.args in
@@ -52,7 +52,7 @@ loop-again c =
       called.make-row.auto.0 ∙ loop.invariant.1,
       next_row _ loop.i loop.invariant.2,
       loop.invariant.3,
-      spread-more _ _ _ _ _ loop.invariant.4 (omega arith) loop.invariant.1 loop.invariant.2 called.make-row.ensures,
+      spread_more _ _ _ _ _ loop.invariant.4 (omega arith) loop.invariant.1 loop.invariant.2 called.make-row.ensures,
     )
 
 same_length : tie.Need-same-length invariant-loop decreases-loop
@@ -66,8 +66,8 @@ returns-3 c =
     let a = c.before.before.before.before.before.args in
     spread-other (2 ^ 63) a.output.now a.coefficient-count a.moduli.now (sym c.before.has-shape.ensures ∙ c.if2.false)
 
-pub spread-rows-spec : {M : Type 1} → statement M
-spread-rows-spec =
+pub spread_rows_spec : {M : Type 1} → statement M
+spread_rows_spec =
     tie.close
     (tie.spec invariant-loop decreases-loop returns (λ c κs. search rules) sub-last loop-holds (λ c. omega arith) (λ c. omega arith) make-row-requires add_at
     (λ c. omega arith) (λ c. omega arith) loop-again same_length returns-2 returns-3)

@@ -8,9 +8,9 @@ use borrow.Fn.Kinds.{In}
 use borrow.Fn.PlainCycle.{Measures, is, falls, and}
 use lib.ListN.{length, length-append, length-set}
 use Rattle.decimal.specs.Decimal.{decimal}
-use Rattle.decimal.proofs.Digits.{decimal-more}
-use Rattle.decimal.proofs.Front.{front-more}
-use Rattle.decimal.proofs.Halves.{one-digit, more-digits}
+use Rattle.decimal.proofs.Digits.{decimal_more}
+use Rattle.decimal.proofs.Front.{front_more}
+use Rattle.decimal.proofs.Halves.{one-digit, more_digits}
 use Rattle.decimal.proofs.write_digits.Reads as own
 use Rattle.decimal.proofs.write_digits.Kinds as kinds
 use Rattle.decimal.proofs.tenth.Reads as tenth
@@ -43,7 +43,7 @@ module _ (t : ℕ) (c : lts.After-tenth (tenth.Asked, tenth.Learnt, below t, own
   parts : let a = c.before.before.before.args in
       let q = c.tenth.result in
       decimal (a.high * 2 ^ 64 + a.low) ≡ decimal (q.high * 2 ^ 64 + q.low) ++ ((48 + q.digit) ∷ [])
-  parts = rw (c.tenth.ensures.0, c.tenth.ensures.1) (decimal-more _ (more-digits _ _ c.before.if1.false))
+  parts = rw (c.tenth.ensures.0, c.tenth.ensures.1) (decimal_more _ (more_digits _ _ c.before.if1.false))
 
   room : length (decimal (c.tenth.result.high * 2 ^ 64 + c.tenth.result.low)) < length c.before.before.before.args.text.now
   room = omega (arith, simp length-append at (ap length parts), c.before.before.before.requires)
@@ -54,12 +54,12 @@ slice-write-text t c = omega (arith, ap length (alone t c).1, c.before.before.re
 returns : (t : ℕ) → lts.Need-returns (tenth.Asked, tenth.Learnt, below t, own.Post) (at-measure t) own.Post
 returns t c =
     let a = c.before.before.args in
-    rw (alone t c).1 (front-more [] a.text.now (48 + a.low) (slice-write-text t c) refl)
+    rw (alone t c).1 (front_more [] a.text.now (48 + a.low) (slice-write-text t c) refl)
 
 write-digits-requires : (t : ℕ) → lts.Need-write-digits-requires (tenth.Asked, tenth.Learnt, below t, own.Post) (at-measure t) own.Post
 write-digits-requires t c κs =
     let test = c.before.before in
-    (less _ _ t (more-digits _ _ test.if1.false) c.before.tenth.ensures.0 test.before.before.requires.0, omega (arith, room t c.before))
+    (less _ _ t (more_digits _ _ test.if1.false) c.before.tenth.ensures.0 test.before.before.requires.0, omega (arith, room t c.before))
 
 add-text-2 : (t : ℕ) → lts.Need-overflow-add-text-2 (tenth.Asked, tenth.Learnt, below t, own.Post) (at-measure t) own.Post
 add-text-2 t c =
@@ -77,7 +77,7 @@ returns-2 t c =
     let divided = c.before.before.before.before.before in
     let q = divided.tenth.result in
     rw (parts t divided)
-    (front-more (decimal (q.high * 2 ^ 64 + q.low)) divided.before.before.before.args.text.now (48 + q.digit) (room t divided)
+    (front_more (decimal (q.high * 2 ^ 64 + q.low)) divided.before.before.before.args.text.now (48 + q.digit) (room t divided)
     c.before.before.before.write-digits.ensures)
 
 pub +write-digits-spec : {M : Type 1} → statement M

@@ -4,12 +4,12 @@ use Prim.Native.Nat.{◌≤◌}
 use native.Mathlib.Omega.{arith}
 use lib.ListN.{length}
 use lib.Seq.{length-take-le}
-use Rattle.decimal.proofs.Halves.{digits-fit}
+use Rattle.decimal.proofs.Halves.{digits_fit}
 use Rattle.decimal.proofs.write_halves.Statement.{statement}
 use Rattle.decimal.proofs.write_halves.Tie as tie
 
 write-digits-requires : tie.Need-write-digits-requires
-write-digits-requires c κs = omega (arith, digits-fit c.before.ranges.high.fits c.before.ranges.low.fits)
+write-digits-requires c κs = omega (arith, digits_fit c.before.ranges.high.fits c.before.ranges.low.fits)
 
 returns : tie.Need-returns
 returns c =
@@ -18,5 +18,5 @@ returns c =
     omega (arith, ap (λ p. p.0) called.ensures, called.auto.1.1.0, write-digits-requires c.before called.lifetimes) in
     (called.ensures, (inside, sym (length-take-le _ _ inside)))
 
-pub write-halves-spec : {M : Type 1} → statement M
-write-halves-spec = tie.close (tie.spec write-digits-requires returns)
+pub write_halves_spec : {M : Type 1} → statement M
+write_halves_spec = tie.close (tie.spec write-digits-requires returns)

@@ -2,22 +2,22 @@
 use mathlib.Core.Path.{sym, ◌∙◌}
 use borrow.Author.Rules.{rules}
 use borrow.Author.Tests.{ne_eqb}
-use Rattle.desk.specs.Desk.{deskDraw}
+use Rattle.desk.specs.Desk.{desk_draw}
 use Rattle.desk.proofs.desk_draw.Statement.{statement}
 use Rattle.desk.proofs.desk_draw.Tie as tie
 
 returns : tie.Need-returns
-unfolding deskDraw
+unfolding desk_draw
 returns c = rw (← c.before.desk-number.ensures, ne_eqb _ 0 c.if1.true)
 
 returns-2 : tie.Need-returns-2
-unfolding deskDraw
+unfolding desk_draw
 returns-2 c =
     let drawn = c.before.before in
     let test = drawn.before.before.before in
     rw (← test.before.desk-number.ensures, test.if1.false) drawn.draw-bytes.ensures
 
-pub desk-draw-spec : {M : Type 1} → statement M
-desk-draw-spec =
+pub desk_draw_spec : {M : Type 1} → statement M
+desk_draw_spec =
     tie.close
     (tie.spec (λ c κs. search rules) returns (λ c κs. sym c.before.before.before.desk-number.ensures ∙ c.before.before.if1.false) (λ c. search rules) returns-2)

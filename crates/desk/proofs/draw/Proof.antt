@@ -53,8 +53,8 @@ returns-2 c =
     (rw (zeros room) at drawn.draw-question.ensures.0) (rw (← sized room) at drawn.draw-question.ensures.1)
     (rw test.if1.false refl)
 
-pub draw-spec : {M : Type 1} → statement M
-draw-spec =
+pub draw_spec : {M : Type 1} → statement M
+draw_spec =
     tie.close
     (tie.spec (λ c κs. search rules) (λ c. omega (arith, c.before.before.before.requires.0)) (λ c. sized c.before) (λ c κs. search rules) (λ c κs. search rules)
     (λ c. search rules) returns returns-2)

@@ -8,7 +8,7 @@ use borrow.Author.Tests.{eq-eqb}
 use lib.ListN.{length, take}
 use lib.Seq.{length-take-le}
 use Rattle.little_endian.specs.LittleEndian.{words_in}
-use Rattle.desk.specs.Desk.{drawnAnswer}
+use Rattle.desk.specs.Desk.{drawn_answer}
 use Rattle.desk.proofs.Requests.{Good, good}
 use Rattle.desk.proofs.draw_bytes.Statement.{statement}
 use Rattle.desk.proofs.draw_bytes.Tie as tie
@@ -33,7 +33,7 @@ decoded c =
 draw-requires : tie.Need-draw-requires
 draw-requires c κs =
     let room = c.before.before.before.before.before.before.before in
-    ((fits room).few-coefficients, (fits room).whole-output)
+    ((fits room).few-coefficients, (fits room).whole_output)
 
 returns : tie.Need-returns
 returns c =
@@ -41,10 +41,10 @@ returns c =
     let read = drawn.before.before.before.before.before in
     let start = read.before.before.before.before.before.before in
     let a = start.args in
-    drawn.draw.ensures ∙ ap (λ (ws : List ℕ). drawnAnswer a.kind a.a a.b a.modulus ws a.place a.output.now) (decoded read)
+    drawn.draw.ensures ∙ ap (λ (ws : List ℕ). drawn_answer a.kind a.a a.b a.modulus ws a.place a.output.now) (decoded read)
 
-pub draw-bytes-spec : {M : Type 1} → statement M
-draw-bytes-spec =
+pub draw_bytes_spec : {M : Type 1} → statement M
+draw_bytes_spec =
     tie.close
     (tie.spec (λ c κs. search rules) (λ c. omega (arith, (fits c).few_words, c.words-room.ensures)) (λ c. sized c.before) (λ c κs. search rules)
     draw-requires (λ c. search rules) returns)

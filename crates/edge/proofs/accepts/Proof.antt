@@ -1,22 +1,22 @@
 -- `accepts` is the definition's test, one arm for each side of the deviation.
 use lib.Ieee.{round, of_bits}
-use Rattle.edge.specs.Edge.{acceptsOn}
+use Rattle.edge.specs.Edge.{accepts_on}
 use borrow.Author.Rules.{rules}
 use Rattle.edge.proofs.accepts.Statement.{statement}
 use Rattle.edge.proofs.accepts.Tie as tie
 
 returns : tie.Need-returns
-unfolding acceptsOn round of_bits
+unfolding accepts_on round of_bits
 returns c = rw (c.before.if1.true, c.line.ensures)
 
 returns-2 : tie.Need-returns-2
-unfolding acceptsOn round of_bits
+unfolding accepts_on round of_bits
 returns-2 c = rw (c.before.before.before.if1.false, c.before.if2.true, c.line2.ensures)
 
 returns-3 : tie.Need-returns-3
-unfolding acceptsOn round of_bits
+unfolding accepts_on round of_bits
 returns-3 c = rw (c.before.before.if1.false, c.if2.false)
 
-pub accepts-spec : {M : Type 1} → statement M
-accepts-spec =
+pub accepts_spec : {M : Type 1} → statement M
+accepts_spec =
     tie.close (tie.spec (λ c. search rules) (λ c. search rules) (λ c κs. search rules) (λ c κs. search rules) returns returns-2 returns-3)

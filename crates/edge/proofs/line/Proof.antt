@@ -16,5 +16,5 @@ returns-2 : tie.Need-returns-2
 unfolding line_of
 returns-2 c = rw (c.before.before.if1.false, c.before.slope.ensures)
 
-pub line-spec : {M : Type 1} → statement M
-line-spec = tie.close (tie.spec slope-requires returns returns-2)
+pub line_spec : {M : Type 1} → statement M
+line_spec = tie.close (tie.spec slope-requires returns returns-2)

@@ -1,5 +1,5 @@
 -- `prepare` prepares each distribution by its own part.
-use Rattle.error_method.proofs.Preparing.{prepares-gaussian, prepares-binomial}
+use Rattle.error_method.proofs.Preparing.{prepares_gaussian, prepares_binomial}
 use mathlib.Core.Path.{◌∙◌}
 use borrow.Author.Rules.{rules}
 use Rattle.error_method.proofs.prepare.Statement.{statement}
@@ -8,15 +8,15 @@ use Rattle.error_method.proofs.prepare.Tie as tie
 returns : tie.Need-returns
 returns c =
     let d = c.before.before.before.before.distribution.given in
-    rw d.1 (c.judged.ensures ∙ rw c.before.before.new-parameters.ensures (prepares-gaussian d.0.0))
+    rw d.1 (c.judged.ensures ∙ rw c.before.before.new-parameters.ensures (prepares_gaussian d.0.0))
 
 returns-2 : tie.Need-returns-2
 returns-2 c =
     let d = c.before.before.before.before.distribution2.given in
-    rw d.1 (c.judged2.ensures ∙ rw c.before.before.new.ensures (prepares-binomial d.0.0))
+    rw d.1 (c.judged2.ensures ∙ rw c.before.before.new.ensures (prepares_binomial d.0.0))
 
-pub prepare-spec : {M : Type 1} → statement M
-prepare-spec =
+pub prepare_spec : {M : Type 1} → statement M
+prepare_spec =
     tie.close
     (tie.spec (λ c. search rules) (λ c κs. search rules) (λ c κs. search rules) (λ c. search rules) (λ c κs. search rules) (λ c κs. search rules)
     returns returns-2)

@@ -1,5 +1,5 @@
 -- `is_made` prepares the distribution again and compares the methods.
-use Rattle.draw_laws.proofs.Making.{good-test}
+use Rattle.draw_laws.proofs.Making.{good_test}
 use Rattle.methods.specs.declared.SamplingMethod.TheVariants.{Empty}
 use Rattle.error_sampler.proofs.Made.{makes}
 use borrow.Author.Rules.{rules}
@@ -10,8 +10,8 @@ returns : tie.Need-returns
 returns c =
     let at = c.before.before.before.before in
     rw (c.before.same_key.ensures, c.before.before.method-key2.ensures, c.before.before.before.method-key.ensures, at.prepare.ensures)
-    (good-test makes Empty at.before.args.sampler)
+    (good_test makes Empty at.before.args.sampler)
 
-pub is-made-spec : {M : Type 1} → statement M
-is-made-spec =
+pub is_made_spec : {M : Type 1} → statement M
+is_made_spec =
     tie.close (tie.spec (λ c κs. search rules) (λ c κs. search rules) (λ c κs. search rules) (λ c κs. search rules) returns)

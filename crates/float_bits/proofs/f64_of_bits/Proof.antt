@@ -32,5 +32,5 @@ float-from-bits-result : tie.Need-float-from-bits-result
 unfolding nan_bits
 float-from-bits-result c = rw c.if1.false tt
 
-pub f64-of-bits-spec : {M : Type 1} → statement M
-f64-of-bits-spec = tie.close (tie.spec returns float-from-bits-result (λ c. search rules))
+pub f64_of_bits_spec : {M : Type 1} → statement M
+f64_of_bits_spec = tie.close (tie.spec returns float-from-bits-result (λ c. search rules))

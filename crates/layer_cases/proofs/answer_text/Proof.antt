@@ -9,8 +9,8 @@ invariant-loop text size figures₀ number₀ at₀ figures number at = Unit {0}
 abbrev decreases-loop : tie.decreases-loop
 decreases-loop text size figures₀ number₀ at₀ figures number at = size - at
 
-pub answer-text-spec : {M : Type 1} → statement M
-answer-text-spec =
+pub answer_text_spec : {M : Type 1} → statement M
+answer_text_spec =
     tie.close
     (tie.spec invariant-loop decreases-loop (λ c. search rules) (λ c κs. search rules) (λ c. search rules) (λ c. search rules) (λ c. search rules)
     (λ c κs. search rules) (λ c. search rules) (λ c κs. search rules) (λ c. search rules) (λ c. search rules) (λ c. search rules)

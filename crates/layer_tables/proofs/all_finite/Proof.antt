@@ -6,13 +6,13 @@ use native.Mathlib.Omega.{arith}
 use lib.ListN.{length, drop}
 use lib.Ieee.{nan}
 use lib.Ieee.Scale.{finite}
-use Rattle.distr.specs.Layered.{allFinite}
+use Rattle.distr.specs.Layered.{all_finite}
 use Rattle.layer_tables.proofs.Judging.{each_more, each_all}
 use Rattle.layer_tables.proofs.all_finite.Statement.{statement}
 use Rattle.layer_tables.proofs.all_finite.Tie as tie
 
 abbrev invariant-loop : tie.invariant-loop
-invariant-loop xs ok₀ i₀ ok i = ok && allFinite (drop i xs) ≡ allFinite xs
+invariant-loop xs ok₀ i₀ ok i = ok && all_finite (drop i xs) ≡ all_finite xs
 
 abbrev decreases-loop : tie.decreases-loop
 decreases-loop xs ok₀ i₀ ok i = length xs - i
@@ -24,22 +24,22 @@ is-finite-requires : tie.Need-is-finite-requires invariant-loop decreases-loop
 is-finite-requires c κs = tt
 
 loop-again : tie.Need-loop-preserved invariant-loop decreases-loop
-unfolding allFinite
+unfolding all_finite
 loop-again c =
     let a = c.before.before.before.before.before.args in
     let turn = c.before.before.before.loop in
     rw c.is_finite.ensures
-    (each_more allFinite refl finite (λ x xs. refl) turn.ok turn.i a.xs.now nan c.before.before.loop-test.true turn.invariant)
+    (each_more all_finite refl finite (λ x xs. refl) turn.ok turn.i a.xs.now nan c.before.before.loop-test.true turn.invariant)
 
 returns : tie.Need-returns invariant-loop decreases-loop
-unfolding allFinite
+unfolding all_finite
 returns c =
     let a = c.before.before.before.args in
     let turn = c.before.loop in
-    each_all allFinite refl turn.ok turn.i a.xs.now c.loop-test.false turn.invariant
+    each_all all_finite refl turn.ok turn.i a.xs.now c.loop-test.false turn.invariant
 
-pub all-finite-spec : {M : Type 1} → statement M
-all-finite-spec =
+pub all_finite_spec : {M : Type 1} → statement M
+all_finite_spec =
     tie.close
     (tie.spec invariant-loop decreases-loop loop-holds (λ c. omega arith) (λ c. omega arith) is-finite-requires (λ c. omega arith) (λ c. omega arith) loop-again
     returns)

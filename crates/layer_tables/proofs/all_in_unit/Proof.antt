@@ -5,13 +5,13 @@ use Prim.Native.Nat.{◌-◌}
 use native.Mathlib.Omega.{arith}
 use lib.ListN.{length, drop}
 use lib.Ieee.{nan, of_bits, round}
-use Rattle.distr.specs.Layered.{inUnit, allInUnit}
+use Rattle.distr.specs.Layered.{in_unit, all_in_unit}
 use Rattle.layer_tables.proofs.Judging.{each_more, each_all}
 use Rattle.layer_tables.proofs.all_in_unit.Statement.{statement}
 use Rattle.layer_tables.proofs.all_in_unit.Tie as tie
 
 abbrev invariant-loop : tie.invariant-loop
-invariant-loop xs ok₀ i₀ ok i = ok && allInUnit (drop i xs) ≡ allInUnit xs
+invariant-loop xs ok₀ i₀ ok i = ok && all_in_unit (drop i xs) ≡ all_in_unit xs
 
 abbrev decreases-loop : tie.decreases-loop
 decreases-loop xs ok₀ i₀ ok i = length xs - i
@@ -20,19 +20,19 @@ loop-holds : tie.Need-loop-init invariant-loop decreases-loop
 loop-holds c = refl
 
 loop-again : tie.Need-loop-preserved invariant-loop decreases-loop
-unfolding allInUnit of_bits round
+unfolding all_in_unit of_bits round
 loop-again c =
     let a = c.before.before.before.args in
     let turn = c.before.before.loop in
-    each_more allInUnit refl inUnit (λ x xs. refl) turn.ok turn.i a.xs.now nan c.before.loop-test.true turn.invariant
+    each_more all_in_unit refl in_unit (λ x xs. refl) turn.ok turn.i a.xs.now nan c.before.loop-test.true turn.invariant
 
 returns : tie.Need-returns invariant-loop decreases-loop
-unfolding allInUnit
+unfolding all_in_unit
 returns c =
     let a = c.before.before.args in
     let turn = c.before.loop in
-    each_all allInUnit refl turn.ok turn.i a.xs.now c.loop-test.false turn.invariant
+    each_all all_in_unit refl turn.ok turn.i a.xs.now c.loop-test.false turn.invariant
 
-pub all-in-unit-spec : {M : Type 1} → statement M
-all-in-unit-spec =
+pub all_in_unit_spec : {M : Type 1} → statement M
+all_in_unit_spec =
     tie.close (tie.spec invariant-loop decreases-loop loop-holds (λ c. omega arith) (λ c. omega arith) (λ c. omega arith) (λ c. omega arith) loop-again returns)

@@ -28,5 +28,5 @@ returns-3 c =
     let a = c.before.before.before.before.args in
     rw (c.all-in-unit.ensures, eq-eqb (length a.curve.now) (a.maximum-magnitude + 1) (omega arith))
 
-pub curve-ok-spec : {M : Type 1} → statement M
-curve-ok-spec = tie.close (tie.spec returns sub-if2 returns-2 all-in-unit-requires returns-3)
+pub curve_ok_spec : {M : Type 1} → statement M
+curve_ok_spec = tie.close (tie.spec returns sub-if2 returns-2 all-in-unit-requires returns-3)

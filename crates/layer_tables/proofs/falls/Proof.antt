@@ -5,7 +5,7 @@ use native.Mathlib.Omega.{arith}
 use lib.ListN.{length}
 use lib.Ieee.{lt, nan}
 use Rattle.distr.specs.Layered.{falls}
-use Rattle.layer_tables.proofs.Judging.{Paired, pair-more, pair-all}
+use Rattle.layer_tables.proofs.Judging.{Paired, pair_more, pair_all}
 use Rattle.layer_tables.proofs.falls.Statement.{statement}
 use Rattle.layer_tables.proofs.falls.Tie as tie
 
@@ -22,14 +22,14 @@ loop-again : tie.Need-loop-preserved invariant-loop decreases-loop
 unfolding falls
 loop-again c =
     let l = c.before.before.before.loop in
-    pair-more falls refl (λ a b. lt b a) (λ x y xs. refl) l.ok _ _ nan c.before.before.loop-test.true l.invariant
+    pair_more falls refl (λ a b. lt b a) (λ x y xs. refl) l.ok _ _ nan c.before.before.loop-test.true l.invariant
 
 returns : tie.Need-returns invariant-loop decreases-loop
 unfolding falls
-returns c = pair-all falls refl (λ x. refl) _ _ _ c.loop-test.false c.before.loop.invariant
+returns c = pair_all falls refl (λ x. refl) _ _ _ c.loop-test.false c.before.loop.invariant
 
-pub falls-spec : {M : Type 1} → statement M
-falls-spec =
+pub falls_spec : {M : Type 1} → statement M
+falls_spec =
     tie.close
     (tie.spec invariant-loop decreases-loop loop-holds (λ c. omega arith) (λ c. omega arith) (λ c. omega arith) (λ c. omega arith) (λ c. omega arith)
     (λ c. omega arith) (λ c. omega arith) loop-again returns)

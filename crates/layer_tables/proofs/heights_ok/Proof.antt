@@ -5,7 +5,7 @@ use borrow.Author.Tests.{eq-eqb, ne_eqb}
 use lib.ListN.{length}
 use lib.Ieee.{nan, round, of_bits}
 use Rattle.distr.specs.Constants.{literal}
-use Rattle.distr.proofs.FirstWrong.{getD-there}
+use Rattle.distr.proofs.FirstWrong.{get_d_there}
 use borrow.Author.Rules.{rules}
 use Rattle.layer_tables.proofs.heights_ok.Statement.{statement}
 use Rattle.layer_tables.proofs.heights_ok.Tie as tie
@@ -29,12 +29,12 @@ returns-3 c =
       c.before.before.before.all-finite.ensures,
       c.before.before.falls.ensures,
       eq-eqb (length hs) (a.layers + 1) (omega arith),
-      getD-there hs 0 (literal 0 1) nan (omega arith),
-      getD-there hs a.layers (literal 1 1) nan (omega arith),
+      get_d_there hs 0 (literal 0 1) nan (omega arith),
+      get_d_there hs a.layers (literal 1 1) nan (omega arith),
     )
 
-pub heights-ok-spec : {M : Type 1} → statement M
-heights-ok-spec =
+pub heights_ok_spec : {M : Type 1} → statement M
+heights_ok_spec =
     tie.close
     (tie.spec returns (λ c. search rules) returns-2 (λ c κs. search rules) (λ c κs. search rules) (λ c. search rules) (λ c. search rules)
     (λ c. search rules) returns-3)

@@ -22,6 +22,6 @@ returns-3 : tie.Need-returns-3
 returns-3 c =
     rw c.if2.false
 
-pub layer-tables-ok-spec : {M : Type 1} → statement M
-layer-tables-ok-spec =
+pub layer_tables_ok_spec : {M : Type 1} → statement M
+layer_tables_ok_spec =
     tie.close (tie.spec returns (λ c. search rules) (λ c κs. search rules) (λ c κs. search rules) (λ c κs. search rules) returns-2 returns-3)

@@ -9,5 +9,5 @@ returns c = rw c.if1.true
 returns-2 : tie.Need-returns-2
 returns-2 c = rw (ne_eqb _ _ c.if1.false)
 
-pub judged-spec : {M : Type 1} → statement M
-judged-spec = tie.close (tie.spec returns returns-2)
+pub judged_spec : {M : Type 1} → statement M
+judged_spec = tie.close (tie.spec returns returns-2)

@@ -40,8 +40,8 @@ returns-11 c = rw c.enum-told7.given.1
 returns-12 : tie.Need-returns-12
 returns-12 c = rw c.enum-told8.given.1
 
-pub length-number-spec : {M : Type 1} → statement M
-length-number-spec =
+pub length_number_spec : {M : Type 1} → statement M
+length_number_spec =
     tie.close
     (tie.spec (λ c. search rules) (λ c. search rules) (λ c. search rules) (λ c. search rules) (λ c. search rules) (λ c. search rules)
     (λ c κs. search rules) (λ c. search rules) (λ c κs. search rules) (λ c. search rules) (λ c κs. search rules) (λ c. search rules)

@@ -9,5 +9,5 @@ returns c = rw (le-leb _ _ c.if1.true)
 returns-2 : tie.Need-returns-2
 returns-2 c = rw (lt-leb _ _ c.if1.false)
 
-pub modulus-number-spec : {M : Type 1} → statement M
-modulus-number-spec = tie.close (tie.spec returns returns-2)
+pub modulus_number_spec : {M : Type 1} → statement M
+modulus_number_spec = tie.close (tie.spec returns returns-2)

@@ -16,5 +16,5 @@ returns-2 : tie.Need-returns-2
 unfolding first_of
 returns-2 c = rw c.if1.false
 
-pub validated-modulus-spec : {M : Type 1} → statement M
-validated-modulus-spec = tie.close (tie.spec (λ c κs. search rules) returns returns-2)
+pub validated_modulus_spec : {M : Type 1} → statement M
+validated_modulus_spec = tie.close (tie.spec (λ c κs. search rules) returns returns-2)

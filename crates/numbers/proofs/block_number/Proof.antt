@@ -20,5 +20,5 @@ returns-3 c = rw (ne_eqb _ 0 c.before.before.if1.false, c.if3.true)
 returns-4 : tie.Need-returns-4
 returns-4 c = rw (ne_eqb _ 0 c.before.before.if1.false, ne_eqb _ 0 c.if3.false)
 
-pub block-number-spec : {M : Type 1} → statement M
-block-number-spec = tie.close (tie.spec rem-if3 returns returns-2 returns-3 returns-4)
+pub block_number_spec : {M : Type 1} → statement M
+block_number_spec = tie.close (tie.spec rem-if3 returns returns-2 returns-3 returns-4)

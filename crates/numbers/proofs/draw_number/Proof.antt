@@ -25,5 +25,5 @@ returns-3 : tie.Need-returns-3
 unfolding first_of
 returns-3 c = rw (le-ltb _ _ c.before.if1.false, le-ltb _ _ c.if2.false) (alone c.before.before.args.own_val)
 
-pub draw-number-spec : {M : Type 1} → statement M
-draw-number-spec = tie.close (tie.spec returns returns-2 returns-3)
+pub draw_number_spec : {M : Type 1} → statement M
+draw_number_spec = tie.close (tie.spec returns returns-2 returns-3)

@@ -19,5 +19,5 @@ returns-3 c =
       le-ltb (2 ^ 64 - 1) (start.args.first + start.args.second) (omega arith),
     )
 
-pub weight-number-spec : {M : Type 1} → statement M
-weight-number-spec = tie.close (tie.spec returns returns-2 returns-3)
+pub weight_number_spec : {M : Type 1} → statement M
+weight_number_spec = tie.close (tie.spec returns returns-2 returns-3)

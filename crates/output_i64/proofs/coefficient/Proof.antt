@@ -39,5 +39,5 @@ returns-3 c =
     let small : m < 2 ^ 63 = omega arith in
     rw (to_z_pos w64 small, +ℤ_idl (neg_ℤ (pos m)), to_z-of_z (negation-fits m small), lt-ltb m (2 ^ 63) small, c.if2.false)
 
-pub coefficient-spec : {M : Type 1} → statement M
-coefficient-spec = tie.close (tie.spec returns cast-value sub-result returns-2 returns-3)
+pub coefficient_spec : {M : Type 1} → statement M
+coefficient_spec = tie.close (tie.spec returns cast-value sub-result returns-2 returns-3)

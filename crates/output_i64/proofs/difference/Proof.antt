@@ -45,5 +45,5 @@ returns c =
     let f = c.ranges in
     rw (first f.first.fits f.second.fits, second f.first.fits f.second.fits) (to_z-of_z {w = w64} (fits f.first.fits f.second.fits))
 
-pub difference-spec : {M : Type 1} → statement M
-difference-spec = tie.close (tie.spec cast-result cast-result-2 sub-result returns)
+pub difference_spec : {M : Type 1} → statement M
+difference_spec = tie.close (tie.spec cast-result cast-result-2 sub-result returns)

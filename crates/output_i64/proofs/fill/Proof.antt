@@ -7,7 +7,7 @@ use lib.ListN.{length, replicate, length-set}
 use mir.Syntax.{w64}
 use mir.Val.{to_z, of_z}
 use mir.Facts.{to_z-of_z}
-use Rattle.distr.proofs.Writing.{written, fill_more, fill-all}
+use Rattle.distr.proofs.Writing.{written, fill_more, fill_all}
 use Rattle.output_i64.proofs.fill.Statement.{statement}
 use Rattle.output_i64.proofs.fill.Tie as tie
 
@@ -38,7 +38,7 @@ returns c =
     let start = c.before.before in
     let turn = c.before.loop in
     rw (to_z-of_z start.ranges.value) at
-    (fill-all (to_z w64 (of_z w64 start.args.value)) start.args.output.now turn.output turn.i (omega arith) turn.invariant.2)
+    (fill_all (to_z w64 (of_z w64 start.args.value)) start.args.output.now turn.output turn.i (omega arith) turn.invariant.2)
 
 pub fill_spec : {M : Type 1} → statement M
 fill_spec =

@@ -5,19 +5,19 @@ use native.Mathlib.Omega.{arith}
 use mathlib.Core.Path.{◌≡◌, refl, sym, ◌∙◌}
 use mathlib.Core.Bool.{Bool, true, false, ◌||◌, true≢false}
 use lib.Dec.{eqb, eqb-suc-zero}
-use Rattle.distr.specs.Encoding.{encodeWith}
+use Rattle.distr.specs.Encoding.{encode_with}
 use Rattle.distr.specs.Gaussian.{with_sign}
 use Rattle.output_u64.proofs.coefficient.Statement.{statement}
 use Rattle.output_u64.proofs.coefficient.Tie as tie
 
 -- A magnitude that is positive or zero stands for itself.
-stays : (positive : Bool) (m minus : ℕ) → (positive || eqb m 0) ≡ true → m ≡ encodeWith minus (with_sign positive m)
+stays : (positive : Bool) (m minus : ℕ) → (positive || eqb m 0) ≡ true → m ≡ encode_with minus (with_sign positive m)
 stays true m minus h = refl
 stays false zero minus h = refl
 stays false (suc m) minus h = absurd (true≢false (sym h ∙ eqb-suc-zero m))
 
 -- Another is taken from the modulus, down to 0.
-wraps : (positive : Bool) (m minus : ℕ) → (positive || eqb m 0) ≡ false → minus + 1 - m ≡ encodeWith minus (with_sign positive m)
+wraps : (positive : Bool) (m minus : ℕ) → (positive || eqb m 0) ≡ false → minus + 1 - m ≡ encode_with minus (with_sign positive m)
 wraps true m minus h = absurd (true≢false h)
 wraps false zero minus h = absurd (true≢false h)
 wraps false (suc m) minus h = omega arith
@@ -47,5 +47,5 @@ returns-3 c =
     let moved : a.encoding.minus_one - a.magnitude + 1 ≡ a.encoding.minus_one + 1 - a.magnitude = omega arith in
     moved ∙ wraps a.positive a.magnitude a.encoding.minus_one c.before.if1.false
 
-pub coefficient-spec : {M : Type 1} → statement M
-coefficient-spec = tie.close (tie.spec add-result returns returns-2 returns-3)
+pub coefficient_spec : {M : Type 1} → statement M
+coefficient_spec = tie.close (tie.spec add-result returns returns-2 returns-3)

@@ -1,7 +1,7 @@
 -- `output_u64::difference` is the encoded difference of the counts: not below zero, below it, and past the encoding's end.
 use native.Mathlib.Omega.{arith}
 use borrow.Author.Rules.{rules}
-use Rattle.distr.proofs.Differences.{minus_pos, minus-neg}
+use Rattle.distr.proofs.Differences.{minus_pos, minus_neg}
 use Rattle.output_u64.proofs.difference.Statement.{statement}
 use Rattle.output_u64.proofs.difference.Tie as tie
 
@@ -15,10 +15,10 @@ sub-below-2 : tie.Need-overflow-sub-below-2
 sub-below-2 c = search rules
 
 returns-2 : tie.Need-returns-2
-returns-2 c = let a = c.before.before.args in rw (minus-neg a.first a.second c.before.if1.false)
+returns-2 c = let a = c.before.before.args in rw (minus_neg a.first a.second c.before.if1.false)
 
 returns-3 : tie.Need-returns-3
-returns-3 c = let a = c.before.before.args in rw (minus-neg a.first a.second c.before.if1.false) (omega arith)
+returns-3 c = let a = c.before.before.args in rw (minus_neg a.first a.second c.before.if1.false) (omega arith)
 
-pub difference-spec : {M : Type 1} → statement M
-difference-spec = tie.close (tie.spec returns sub-below sub-below-2 returns-2 returns-3)
+pub difference_spec : {M : Type 1} → statement M
+difference_spec = tie.close (tie.spec returns sub-below sub-below-2 returns-2 returns-3)

@@ -3,7 +3,7 @@ use mathlib.Core.Path.{◌≡◌, refl}
 use Prim.Native.Nat.{◌-◌, ◌≤◌}
 use native.Mathlib.Omega.{arith}
 use lib.ListN.{length, replicate, length-set}
-use Rattle.distr.proofs.Writing.{written, fill_more, fill-all}
+use Rattle.distr.proofs.Writing.{written, fill_more, fill_all}
 use Rattle.output_u64.proofs.fill.Statement.{statement}
 use Rattle.output_u64.proofs.fill.Tie as tie
 
@@ -33,7 +33,7 @@ returns : tie.Need-returns invariant-loop decreases-loop
 returns c =
     let start = c.before.before in
     let turn = c.before.loop in
-    fill-all start.args.value start.args.output.now turn.output turn.i (omega arith) turn.invariant.2
+    fill_all start.args.value start.args.output.now turn.output turn.i (omega arith) turn.invariant.2
 
 pub fill_spec : {M : Type 1} → statement M
 fill_spec =

@@ -1,21 +1,21 @@
 -- `cbd_number` tries 27, then 28.
 use borrow.Author.Rules.{rules}
 use Rattle.distr.specs.Numbers.{first_of}
-use Rattle.distr.specs.SamplePolyCbd.{cbdNumber}
+use Rattle.distr.specs.SamplePolyCbd.{cbd_number}
 use Rattle.poly_cbd.proofs.cbd_number.Statement.{statement}
 use Rattle.poly_cbd.proofs.cbd_number.Tie as tie
 
 returns : tie.Need-returns
-unfolding first_of cbdNumber
+unfolding first_of cbd_number
 returns c = rw c.if1.true
 
 returns-2 : tie.Need-returns-2
-unfolding first_of cbdNumber
+unfolding first_of cbd_number
 returns-2 c = rw (c.before.if1.false, c.if2.true)
 
 returns-3 : tie.Need-returns-3
-unfolding first_of cbdNumber
+unfolding first_of cbd_number
 returns-3 c = rw (c.before.if1.false, c.if2.false)
 
-pub cbd-number-spec : {M : Type 1} → statement M
-cbd-number-spec = tie.close (tie.spec returns (λ c. search rules) returns-2 returns-3)
+pub cbd_number_spec : {M : Type 1} → statement M
+cbd_number_spec = tie.close (tie.spec returns (λ c. search rules) returns-2 returns-3)

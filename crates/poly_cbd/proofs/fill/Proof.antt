@@ -5,13 +5,13 @@ use native.Mathlib.Nat.{le_antisymm}
 use native.Mathlib.Omega.{arith}
 use borrow.Author.Rules.{rules}
 use lib.ListN.{length}
-use Rattle.distr.specs.SamplePolyCbd.{coefficientOf, polynomialOf}
-use Rattle.distr.proofs.Tabulating.{tabulated, tabulated-length, tabulated-more, tabulated-all}
+use Rattle.distr.specs.SamplePolyCbd.{coefficient_of, polynomial_of}
+use Rattle.distr.proofs.Tabulating.{tabulated, tabulated-length, tabulated_more, tabulated-all}
 use Rattle.poly_cbd.proofs.fill.Statement.{statement}
 use Rattle.poly_cbd.proofs.fill.Tie as tie
 
 abbrev invariant-loop : tie.invariant-loop
-invariant-loop output₀ eta bytes i₀ output i = (i ≤ 256) × (length output₀ ≡ 256) × (output ≡ tabulated (coefficientOf eta bytes) 256 i output₀)
+invariant-loop output₀ eta bytes i₀ output i = (i ≤ 256) × (length output₀ ≡ 256) × (output ≡ tabulated (coefficient_of eta bytes) 256 i output₀)
 
 abbrev decreases-loop : tie.decreases-loop
 decreases-loop output₀ eta bytes i₀ output i = 256 - i
@@ -33,13 +33,13 @@ loop-again : tie.Need-loop-preserved invariant-loop decreases-loop
 loop-again c =
     let inv = c.before.before.loop.invariant in
     let below = c.before.loop-test.true in
-    (omega (arith, below), inv.1, tabulated-more _ 256 _ _ _ _ inv.1 below inv.2 c.coefficient.ensures)
+    (omega (arith, below), inv.1, tabulated_more _ 256 _ _ _ _ inv.1 below inv.2 c.coefficient.ensures)
 
 same_length : tie.Need-same-length invariant-loop decreases-loop
 same_length c = omega (arith, same c.before, c.before.loop.invariant.1)
 
 returns : tie.Need-returns invariant-loop decreases-loop
-unfolding polynomialOf
+unfolding polynomial_of
 returns c =
     let inv = c.before.loop.invariant in
     tabulated-all _ 256 _ _ _ inv.1 (le_antisymm inv.0 c.loop-test.false) inv.2

@@ -40,7 +40,7 @@ returns-3 c =
     let call = test.before.before in
     drawn _ 3 _ _ _ _ call.cbd-number.ensures test.before.if1.false (is-three test) c.before.before.fill2.ensures
 
-pub sample-poly-cbd-spec : {M : Type 1} → statement M
-sample-poly-cbd-spec =
+pub sample_poly_cbd_spec : {M : Type 1} → statement M
+sample_poly_cbd_spec =
     tie.close
     (tie.spec (λ c κs. search rules) returns fill-requires fill-requires-2 (λ c. search rules) returns-2 (λ c. search rules) returns-3)

@@ -11,5 +11,5 @@ returns : tie.Need-returns
 unfolding of_bits round
 returns c = rw c.is_finite.ensures
 
-pub bad-probability-spec : {M : Type 1} → statement M
-bad-probability-spec = tie.close (tie.spec is-finite-requires returns)
+pub bad_probability_spec : {M : Type 1} → statement M
+bad_probability_spec = tie.close (tie.spec is-finite-requires returns)

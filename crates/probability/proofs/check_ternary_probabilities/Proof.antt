@@ -12,6 +12,6 @@ returns-2 : tie.Need-returns-2
 unfolding of_bits round
 returns-2 c = rw (← c.before.before.bad-probability.ensures, ← c.before.bad-probability2.ensures, c.if1.false)
 
-pub check-ternary-probabilities-spec : {M : Type 1} → statement M
-check-ternary-probabilities-spec =
+pub check_ternary_probabilities_spec : {M : Type 1} → statement M
+check_ternary_probabilities_spec =
     tie.close (tie.spec (λ c κs. search rules) (λ c κs. search rules) returns returns-2)

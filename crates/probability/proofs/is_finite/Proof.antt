@@ -16,5 +16,5 @@ returns : tie.Need-returns
 unfolding div of_bits neg
 returns c = between c.args.x
 
-pub is-finite-spec : {M : Type 1} → statement M
-is-finite-spec = tie.close (tie.spec returns)
+pub is_finite_spec : {M : Type 1} → statement M
+is_finite_spec = tie.close (tie.spec returns)

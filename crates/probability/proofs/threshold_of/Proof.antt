@@ -2,14 +2,14 @@
 use Rattle.std.proofs.Common.{◌≡◌, ◌^◌, T, sym, ◌∙◌, subst, arith, rules, ne_eqb}
 use lib.Ieee.{of_bits, round}
 use Rattle.distr.specs.Thresholds.{threshold}
-use Rattle.probability.specs.Made.{madeThreshold}
+use Rattle.probability.specs.Made.{made_threshold}
 use Rattle.probability.proofs.Truncating.{truncated}
-use Rattle.probability.proofs.Thresholds.{Below, below_one, at_one, scaled, above_zero, below-or-one}
+use Rattle.probability.proofs.Thresholds.{Below, below_one, at_one, scaled, above_zero, below_or_one}
 use Rattle.probability.proofs.threshold_of.Statement.{statement}
 use Rattle.probability.proofs.threshold_of.Tie as tie
 
 returns : tie.Need-returns
-unfolding madeThreshold
+unfolding made_threshold
 returns c = rw (← c.before.bad-probability.ensures, c.if1.true)
 
 -- What is known of the product where p is a probability below 1.
@@ -18,14 +18,14 @@ unfolding of_bits round
 product c =
     let start = c.before.before.before in
     let good = sym c.before.before.bad-probability.ensures ∙ c.before.if1.false in
-    below_one start.args.p (subst T (sym start.well-formed.0.1) tt) (above_zero start.args.p good) (subst T (sym c.if2.true) tt)
+    below_one start.args.p (subst T (sym start.well_formed.0.1) tt) (above_zero start.args.p good) (subst T (sym c.if2.true) tt)
 
 truncating-f64-to-u64-requires : tie.Need-truncating-f64-to-u64-requires
 unfolding of_bits
 truncating-f64-to-u64-requires c κs = ((product c).above, (product c).below)
 
 returns-2 : tie.Need-returns-2
-unfolding madeThreshold of_bits
+unfolding made_threshold of_bits
 returns-2 c =
     let p = c.before.before.before.before.args.p in
     let known = product c.before in
@@ -39,12 +39,12 @@ returns-2 c =
     )
 
 returns-3 : tie.Need-returns-3
-unfolding madeThreshold of_bits
+unfolding made_threshold of_bits
 returns-3 c =
     let p = c.before.before.before.args.p in
     let good = sym c.before.before.bad-probability.ensures ∙ c.before.if1.false in
-    rw (good, at_one p (below-or-one p good) c.if2.false)
+    rw (good, at_one p (below_or_one p good) c.if2.false)
 
-pub threshold-of-spec : {M : Type 1} → statement M
-threshold-of-spec =
+pub threshold_of_spec : {M : Type 1} → statement M
+threshold_of_spec =
     tie.close (tie.spec (λ c κs. search rules) returns truncating-f64-to-u64-requires returns-2 returns-3)

@@ -5,8 +5,8 @@ use lib.ListN.{length-take}
 use Rattle.residue_report.proofs.answer.Statement.{statement}
 use Rattle.residue_report.proofs.answer.Tie as tie
 
-pub answer-spec : {M : Type 1} → statement M
-answer-spec =
+pub answer_spec : {M : Type 1} → statement M
+answer_spec =
     tie.close
     (tie.spec (λ c κs. search rules) (λ c κs. search rules) (λ c. search rules) (λ c. search rules) (λ c κs. search rules) (λ c κs. search rules)
     (λ c. search rules) (λ c κs. search rules) (λ c. search rules) (λ c. simp length-take (omega arith)) (λ c. search rules)

@@ -2,7 +2,7 @@
 use mathlib.Core.Path.{sym, ◌∙◌}
 use borrow.Author.Rules.{rules}
 use Rattle.sheet.proofs.Placing.{written_same}
-use Rattle.sheet.proofs.Answers.{answered-long, answered-short, malformed-text}
+use Rattle.sheet.proofs.Answers.{answered_long, answered-short, malformed-text}
 use Rattle.sheet.proofs.answer_as.Statement.{statement}
 use Rattle.sheet.proofs.answer_as.Tie as tie
 
@@ -17,7 +17,7 @@ returns-2 c =
     let long = test.before.before in
     let a = long.before.before.before.args in
     let bad = sym test.before.is-malformed.ensures ∙ test.if2.true in
-    answered-long a.skipped a.sheet.now a.text.now _ _ long.if1.false
+    answered_long a.skipped a.sheet.now a.text.now _ _ long.if1.false
     (written_same (malformed-text a.skipped a.sheet.now bad) c.before.before.write-refusal.ensures)
 
 answer-well-formed-requires : tie.Need-answer-well-formed-requires
@@ -27,10 +27,10 @@ returns-3 : tie.Need-returns-3
 returns-3 c =
     let long = c.before.before.before.before.before.before in
     let a = long.before.before.before.args in
-    answered-long a.skipped a.sheet.now a.text.now _ _ long.if1.false c.before.before.answer-well-formed.ensures
+    answered_long a.skipped a.sheet.now a.text.now _ _ long.if1.false c.before.before.answer-well-formed.ensures
 
-pub answer-as-spec : {M : Type 1} → statement M
-answer-as-spec =
+pub answer_as_spec : {M : Type 1} → statement M
+answer_as_spec =
     tie.close
     (tie.spec returns (λ c κs. search rules) (λ c κs. search rules) (λ c. search rules) returns-2 answer-well-formed-requires (λ c. search rules)
     returns-3)

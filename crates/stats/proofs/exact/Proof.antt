@@ -1,7 +1,7 @@
 -- `exact` puts the halves of both sums into the report.
 use Rattle.std.proofs.Common.{arith, rules}
 use Rattle.stats.specs.Sums.{value_of}
-use Rattle.stats.proofs.Reports.{exact-is}
+use Rattle.stats.proofs.Reports.{exact_is}
 use Rattle.stats.proofs.exact.Statement.{statement}
 use Rattle.stats.proofs.exact.Tie as tie
 
@@ -10,8 +10,8 @@ returns c =
     let start = c.before.before.before.before.before in
     let t = start.args.totals in
     let d = c.difference.result in
-    exact-is _ d.high d.low t.squares.high t.squares.low (value_of t.residues) (value_of t.moduli)
-    (omega (arith, c.difference.type-inv)) (omega (arith, start.well-formed)) c.before.is_below.ensures c.difference.ensures
+    exact_is _ d.high d.low t.squares.high t.squares.low (value_of t.residues) (value_of t.moduli)
+    (omega (arith, c.difference.type-inv)) (omega (arith, start.well_formed)) c.before.is_below.ensures c.difference.ensures
 
-pub exact-spec : {M : Type 1} → statement M
-exact-spec = tie.close (tie.spec (λ c κs. search rules) (λ c κs. search rules) returns)
+pub exact_spec : {M : Type 1} → statement M
+exact_spec = tie.close (tie.spec (λ c κs. search rules) (λ c κs. search rules) returns)

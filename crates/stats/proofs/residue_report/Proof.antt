@@ -20,10 +20,10 @@ returns c =
     rw (← call.report-number.ensures, ne_eqb call.report-number.result 0 c.before.if1.true, c.refused.ensures)
 
 count-limits-requires : tie.Need-count-limits-requires
-count-limits-requires c κs = let g = good c.before in (g.few, g.modulusMost, g.below, g.same)
+count-limits-requires c κs = let g = good c.before in (g.few, g.modulus_most, g.below, g.same)
 
 sum-residues-requires : tie.Need-sum-residues-requires
-sum-residues-requires c κs = let third = c.before.before.before in let g = good third.before in (g.few, g.modulusMost, g.below)
+sum-residues-requires c κs = let third = c.before.before.before in let g = good third.before in (g.few, g.modulus_most, g.below)
 
 returns-2 : tie.Need-returns-2
 unfolding report
@@ -35,8 +35,8 @@ returns-2 c =
     rw (← test.before.report-number.ensures, test.if1.false, sum_is a.modulus a.residues.now, squares-is a.modulus a.residues.now)
     (rw (c.exact.ensures, counting.count-limits.ensures, totals.residues, totals.moduli, totals.squares) refl)
 
-pub residue-report-spec : {M : Type 1} → statement M
-residue-report-spec =
+pub residue_report_spec : {M : Type 1} → statement M
+residue_report_spec =
     tie.close
     (tie.spec (λ c κs. search rules) (λ c κs. search rules) returns count-limits-requires sum-residues-requires (λ c κs. search rules)
     (λ c. search rules) returns-2)

@@ -9,8 +9,8 @@ invariant-loop kind list place tally₀ i₀ tally i = Unit {0}
 abbrev decreases-loop : tie.decreases-loop
 decreases-loop kind list place tally₀ i₀ tally i = 48 - i
 
-pub list-at-spec : {M : Type 1} → statement M
-list-at-spec =
+pub list_at_spec : {M : Type 1} → statement M
+list_at_spec =
     tie.close
     (tie.spec invariant-loop decreases-loop (λ c κs. search rules) (λ c. search rules) (λ c κs. search rules) (λ c κs. search rules) (λ c. search rules) (λ c. search rules)
     (λ c. search rules) (λ c κs. search rules) (λ c. search rules))

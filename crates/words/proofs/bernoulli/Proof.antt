@@ -5,19 +5,19 @@ use borrow.Author.Rules.{rules}
 use borrow.Author.Tests.{lt-ltb, le-ltb}
 use lib.ListN.{length, drop}
 use Rattle.words.specs.declared.Taken.{Taken}
-use Rattle.words.specs.Reading.{toldChance}
+use Rattle.words.specs.Reading.{told_chance}
 use Rattle.words.proofs.Places.{verdict, chance-told}
 use Rattle.words.proofs.bernoulli.Statement.{statement}
 use Rattle.words.proofs.bernoulli.Tie as tie
 
 returns : tie.Need-returns
-unfolding toldChance
+unfolding told_chance
 returns c = rw c.if1.true refl
 
 -- past the first test the threshold judges what was taken
 judged : (c : tie.After-next-u64) (t : Taken) → c.next-u64.result ≡ t
-    → let a = c.before.before.before.args in verdict a.threshold.below t ≡ toldChance a.words.now a.place a.threshold
-unfolding toldChance
+    → let a = c.before.before.before.args in verdict a.threshold.below t ≡ told_chance a.words.now a.place a.threshold
+unfolding told_chance
 judged c t e =
     let a = c.before.before.before.args in
     rw c.before.if1.false
@@ -32,6 +32,6 @@ returns-3 c = let took = c.before.before.before.before in rw (le-ltb _ _ c.if2.f
 returns-4 : tie.Need-returns-4
 returns-4 c = judged c.before.before _ c.enum_told.given.1
 
-pub bernoulli-spec : {M : Type 1} → statement M
-bernoulli-spec =
+pub bernoulli_spec : {M : Type 1} → statement M
+bernoulli_spec =
     tie.close (tie.spec returns (λ c κs. search rules) (λ c. search rules) (λ c. search rules) returns-2 returns-3 returns-4)

@@ -3,7 +3,7 @@ use Prim.Native.Nat.{◌+◌}
 use native.Mathlib.Numerals.{add-one}
 use native.Mathlib.Omega.{arith}
 use borrow.Author.Rules.{rules}
-use Rattle.words.proofs.Places.{word-there, word-missing, taken_at, taken_none}
+use Rattle.words.proofs.Places.{word-there, word_missing, taken_at, taken_none}
 use Rattle.words.proofs.next_u32.Statement.{statement}
 use Rattle.words.proofs.next_u32.Tie as tie
 
@@ -28,7 +28,7 @@ returns c =
 returns-2 : tie.Need-returns-2
 returns-2 c =
     let a = c.before.args in
-    taken_none a.words.now 0 _ (word-missing a.words.now a.place c.if1.false)
+    taken_none a.words.now 0 _ (word_missing a.words.now a.place c.if1.false)
 
-pub next-u32-spec : {M : Type 1} → statement M
-next-u32-spec = tie.close (tie.spec mul-value shared-slice-read-value cast-value add-next returns returns-2)
+pub next_u32_spec : {M : Type 1} → statement M
+next_u32_spec = tie.close (tie.spec mul-value shared-slice-read-value cast-value add-next returns returns-2)

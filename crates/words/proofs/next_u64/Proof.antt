@@ -3,19 +3,19 @@ use Prim.Native.Nat.{◌+◌}
 use native.Mathlib.Numerals.{add-one, add-two}
 use native.Mathlib.Omega.{arith}
 use borrow.Author.Rules.{rules}
-use Rattle.words.proofs.Places.{wide-there, wide-missing, taken_at, taken_none}
+use Rattle.words.proofs.Places.{wide-there, wide_missing, taken_at, taken_none}
 use Rattle.words.proofs.next_u64.Statement.{statement}
 use Rattle.words.proofs.next_u64.Tie as tie
 
 returns : tie.Need-returns
 returns c =
     let a = c.before.before.args in
-    taken_none a.words.now 0 _ (wide-missing a.words.now a.place (omega arith))
+    taken_none a.words.now 0 _ (wide_missing a.words.now a.place (omega arith))
 
 returns-2 : tie.Need-returns-2
 returns-2 c =
     let a = c.before.before.before.args in
-    taken_none a.words.now 0 _ (wide-missing a.words.now a.place (omega arith))
+    taken_none a.words.now 0 _ (wide_missing a.words.now a.place (omega arith))
 
 returns-3 : tie.Need-returns-3
 returns-3 c =
@@ -23,8 +23,8 @@ returns-3 c =
     taken_at a.words.now (a.place + 2) _ _ (omega arith)
     (rw (c.wide_word.ensures, add-two a.place, add-one a.place) (wide-there a.words.now a.place (omega arith)))
 
-pub next-u64-spec : {M : Type 1} → statement M
-next-u64-spec =
+pub next_u64_spec : {M : Type 1} → statement M
+next_u64_spec =
     tie.close
     (tie.spec returns returns-2 (λ c. search rules) (λ c. search rules) (λ c. search rules) (λ c. search rules) (λ c. search rules)
     (λ c κs. search rules) (λ c. search rules) returns-3)

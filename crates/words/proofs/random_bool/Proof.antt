@@ -3,7 +3,7 @@ use native.Mathlib.Numerals.{add-one}
 use native.Mathlib.Omega.{arith}
 use borrow.Author.Rules.{rules}
 use borrow.Author.Tests.{le-leb, lt-leb}
-use Rattle.words.proofs.Places.{coin-there, coin-missing, told-yes, told-no, told_none}
+use Rattle.words.proofs.Places.{coin-there, coin_missing, told_yes, told_no, told_none}
 use Rattle.words.proofs.random_bool.Statement.{statement}
 use Rattle.words.proofs.random_bool.Tie as tie
 
@@ -11,19 +11,19 @@ returns : tie.Need-returns
 returns c =
     let a = c.before.before.before.args in
     rw (add-one a.place)
-    (told-yes a.words.now _ _ (omega arith) (coin-there a.words.now a.place _ c.before.before.if1.true (le-leb _ _ c.if2.true)))
+    (told_yes a.words.now _ _ (omega arith) (coin-there a.words.now a.place _ c.before.before.if1.true (le-leb _ _ c.if2.true)))
 
 returns-2 : tie.Need-returns-2
 returns-2 c =
     let a = c.before.before.before.args in
     rw (add-one a.place)
-    (told-no a.words.now _ _ (omega arith) (coin-there a.words.now a.place _ c.before.before.if1.true (lt-leb _ _ c.if2.false)))
+    (told_no a.words.now _ _ (omega arith) (coin-there a.words.now a.place _ c.before.before.if1.true (lt-leb _ _ c.if2.false)))
 
 returns-3 : tie.Need-returns-3
 returns-3 c =
     let a = c.before.args in
-    told_none a.words.now _ (coin-missing a.words.now a.place c.if1.false)
+    told_none a.words.now _ (coin_missing a.words.now a.place c.if1.false)
 
-pub random-bool-spec : {M : Type 1} → statement M
-random-bool-spec =
+pub random_bool_spec : {M : Type 1} → statement M
+random_bool_spec =
     tie.close (tie.spec (λ c. search rules) (λ c. search rules) (λ c. search rules) (λ c. search rules) returns returns-2 returns-3)

@@ -18,5 +18,5 @@ returns c = sym (mod-eq_of_lt (omega arith))
 returns-2 : tie.Need-returns-2
 returns-2 c = search rules
 
-pub remainder-spec : {M : Type 1} → statement M
-remainder-spec = tie.close (tie.spec cast-result rem-result returns returns-2)
+pub remainder_spec : {M : Type 1} → statement M
+remainder_spec = tie.close (tie.spec cast-result rem-result returns returns-2)

@@ -10,11 +10,11 @@ use borrow.Author.Rules.{rules}
 use lib.Dec.{T, leb, ltb, lt→ltb, le→leb}
 use lib.ListN.{length, get_or, drop}
 use Rattle.distr.specs.Words.{choose}
-use Rattle.distr.specs.Skipped.{passedOver}
-use Rattle.distr.proofs.Reading.{choose-accept, choose-skip, choose-end, passed-accept, passed-skip}
+use Rattle.distr.specs.Skipped.{passed_over}
+use Rattle.distr.proofs.Reading.{choose_accept, choose_skip, choose-end, passed_accept, passed_skip}
 use Rattle.words.specs.declared.Taken.TheVariants.{Got}
-use Rattle.words.proofs.Places.{taken_at, taken_none, choose-none}
-use Rattle.words.proofs.Runs.{run-accepted, run-skipped}
+use Rattle.words.proofs.Places.{taken_at, taken_none, choose_none}
+use Rattle.words.proofs.Runs.{run_accepted, run_skipped}
 use Rattle.words.proofs.uniform_below.Statement.{statement}
 use Rattle.words.proofs.uniform_below.Tie as tie
 
@@ -22,7 +22,7 @@ use Rattle.words.proofs.uniform_below.Tie as tie
 record Same (words : List ℕ) (place k i : ℕ) : Type 0 where
   later : place ≤ i
   reads : choose k (drop i words) ≡ choose k (drop place words)
-  counts : passedOver k (drop place words) ≡ (i - place) + passedOver k (drop i words)
+  counts : passed_over k (drop place words) ≡ (i - place) + passed_over k (drop i words)
 
 abbrev invariant-loop : tie.invariant-loop
 invariant-loop words place k last i₀ i = Same words place k i
@@ -33,12 +33,12 @@ decreases-loop words place k last i₀ i = length words - i
 returns : tie.Need-returns invariant-loop decreases-loop
 returns c =
     let a = c.before.before.args in
-    taken_none a.words.now _ _ (choose-none a.k (drop a.place a.words.now) (rw c.if1.true))
+    taken_none a.words.now _ _ (choose_none a.k (drop a.place a.words.now) (rw c.if1.true))
 
 returns-2 : tie.Need-returns-2 invariant-loop decreases-loop
 returns-2 c =
     let a = c.before.before.before.args in
-    taken_none a.words.now _ _ (choose-none a.k (drop a.place a.words.now) (rw (div-eq_of_lt c.if2.true) (mul-zero a.k)))
+    taken_none a.words.now _ _ (choose_none a.k (drop a.place a.words.now) (rw (div-eq_of_lt c.if2.true) (mul-zero a.k)))
 
 loop-holds : tie.Need-loop-init invariant-loop decreases-loop
 loop-holds c = record { later = le_refl _; reads = refl; counts = omega arith }
@@ -74,13 +74,13 @@ returns-3 c =
     let w = word c.before in
     let a = (start t).args in
     let below : T (ltb w (a.k * (2 ^ 32 / a.k))) =
-    lt→ltb w _ (run-accepted 4294967296 a.k w (some t) t.before.if2.left (rw c.before.remainder.ensures at c.if3.true)) in
+    lt→ltb w _ (run_accepted 4294967296 a.k w (some t) t.before.if2.left (rw c.before.remainder.ensures at c.if3.true)) in
     let inside = c.before.before.before.loop-test.true in
-    let passed : i + 1 - a.place - 1 ≡ passedOver a.k (drop a.place a.words.now) =
-    omega (arith, t.loop.inv.counts, passed-accept a.k i a.words.now inside below) in
+    let passed : i + 1 - a.place - 1 ≡ passed_over a.k (drop a.place a.words.now) =
+    omega (arith, t.loop.inv.counts, passed_accept a.k i a.words.now inside below) in
     ap₂ (λ (v s : ℕ). Got v (i + 1) s) c.before.remainder.ensures passed
     ∙ rw (add-one i)
-    (taken_at a.words.now (suc i) (w % a.k) _ (omega arith) (sym t.loop.inv.reads ∙ choose-accept a.k i a.words.now inside below))
+    (taken_at a.words.now (suc i) (w % a.k) _ (omega arith) (sym t.loop.inv.reads ∙ choose_accept a.k i a.words.now inside below))
 
 loop-again : tie.Need-loop-preserved invariant-loop decreases-loop
 loop-again c =
@@ -89,13 +89,13 @@ loop-again c =
     let w = word c.before in
     let a = (start t).args in
     let above : T (leb (a.k * (2 ^ 32 / a.k)) w) =
-    le→leb _ w (run-skipped 4294967296 a.k w (some t) t.before.if2.left (rw c.before.remainder.ensures at c.if3.false)) in
+    le→leb _ w (run_skipped 4294967296 a.k w (some t) t.before.if2.left (rw c.before.remainder.ensures at c.if3.false)) in
     let inside = c.before.before.before.loop-test.true in
     rw (add-one i)
     (record {
       later = omega (arith, t.loop.inv.later);
-      reads = sym (choose-skip a.k i a.words.now inside above) ∙ t.loop.inv.reads;
-      counts = omega (arith, t.loop.inv.later, t.loop.inv.counts, passed-skip a.k i a.words.now inside above);
+      reads = sym (choose_skip a.k i a.words.now inside above) ∙ t.loop.inv.reads;
+      counts = omega (arith, t.loop.inv.later, t.loop.inv.counts, passed_skip a.k i a.words.now inside above);
     })
 
 returns-4 : tie.Need-returns-4 invariant-loop decreases-loop
@@ -104,8 +104,8 @@ returns-4 c =
     taken_none a.words.now _ _
     (sym c.before.loop.invariant.reads ∙ choose-end a.k c.before.loop.i a.words.now c.loop-test.false)
 
-pub uniform-below-spec : {M : Type 1} → statement M
-uniform-below-spec =
+pub uniform_below_spec : {M : Type 1} → statement M
+uniform_below_spec =
     tie.close
     (tie.spec invariant-loop decreases-loop returns returns-2 loop-holds (λ c. omega arith) (λ c. omega arith) remainder-requires (λ c. omega arith) sub-if3
     cast-if3 (λ c. omega (arith, (turn c.before).loop.inv.later)) (λ c. omega (arith, (turn c.before).loop.inv.later)) (λ c. search rules) returns-3

@@ -1,7 +1,7 @@
 -- `sample_ziggurat_to` is refused by its number, or tries and stores, turn by turn. The measure is the words left, of which each try takes one.
 use Rattle.std.proofs.Common.{◌+◌, ◌-◌, ◌≤◌, length, refl, inl, inr, arith, rules}
-use Rattle.distr.proofs.Skipping.{reports-refused}
-use Rattle.ziggurat.proofs.Turning.{Turning, signed-each, signed-held, draw-refused, place-within, place-bytes, heights-there, turning-none, turn-sizes, turn-within, turn-short, edge_on, edge-there, turn-index, turn-bytes, turn-count, turn-less, turn-uses, turn-next, turn-full, turn-reports}
+use Rattle.distr.proofs.Skipping.{reports_refused}
+use Rattle.ziggurat.proofs.Turning.{Turning, signed-each, signed-held, draw-refused, place-within, place-bytes, heights-there, turning_none, turn_sizes, turn-within, turn-short, edge_on, edge_there, turn-index, turn-bytes, turn_count, turn_less, turn_uses, turn-next, turn_full, turn_reports}
 use Rattle.ziggurat_i64.proofs.sample_ziggurat_to.Statement.{statement}
 use Rattle.ziggurat_i64.proofs.sample_ziggurat_to.Tie as tie
 
@@ -16,7 +16,7 @@ loop-holds : tie.Need-loop-init invariant-loop decreases-loop
 loop-holds c =
     let judged = c.before.before.before in
     let numbered = judged.before in
-    turning-none _ _ _ _ _ _ _ _ numbered.before.check-layer-tables.ensures numbered.draw-number.ensures judged.if1.false signed-each
+    turning_none _ _ _ _ _ _ _ _ numbered.before.check-layer-tables.ensures numbered.draw-number.ensures judged.if1.false signed-each
     c.before.zero-threshold.ensures
 
 -- the words that a turn uses lie between its place and the next
@@ -28,7 +28,7 @@ uses c =
     let trial = c.before.before in
     let attempted = trial.before.before in
     let turn = attempted.before in
-    turn-uses _ _ _ _ _ _ _ _ turn.before.loop.invariant turn.loop-test.true _ attempted.attempt.ensures trial.tried.given.1
+    turn_uses _ _ _ _ _ _ _ _ turn.before.loop.invariant turn.loop-test.true _ attempted.attempt.ensures trial.tried.given.1
 
 -- what the judging of a trial at the edge asks for
 passes-edge-requires : tie.Need-passes-edge-requires invariant-loop decreases-loop
@@ -41,7 +41,7 @@ passes-edge-requires c κs =
       edge_on _ _ _ _ _ _ _ _ inv turn.loop-test.true _ attempted.attempt.ensures trial.tried.given.1,
       (
         inv.threshold,
-        edge-there _ _ _ _ _ _ _ _ inv turn.loop-test.true _ attempted.attempt.ensures trial.tried.given.1 edge.if2.false,
+        edge_there _ _ _ _ _ _ _ _ inv turn.loop-test.true _ attempted.attempt.ensures trial.tried.given.1 edge.if2.false,
       ),
     )
 
@@ -65,17 +65,17 @@ loop-again-2 c =
     turn-next _ _ _ _ _ _ _ _ turn.before.loop.invariant turn.loop-test.true _ attempted.attempt.ensures trial.tried.given.1 _
     (inr (edge.if2.false, _, c.passes-edge.ensures, refl)) (signed-held trial.tried.given.0.0 c.before.coefficient2.type-inv (omega (arith, c.before.before.struct-known3.given)) c.before.coefficient2.ensures)
 
-pub sample-ziggurat-to-spec : {M : Type 1} → statement M
-sample-ziggurat-to-spec =
+pub sample_ziggurat_to_spec : {M : Type 1} → statement M
+sample_ziggurat_to_spec =
     tie.close
     (tie.spec invariant-loop decreases-loop (λ c κs. search rules) (λ c κs. search rules) (λ c κs. search rules) (λ c κs. search rules)
-    (λ c. (search draw-refused, search reports-refused)) (λ c. search heights-there) (λ c κs. search rules) (λ c. search place-bytes)
+    (λ c. (search draw-refused, search reports_refused)) (λ c. search heights-there) (λ c κs. search rules) (λ c. search place-bytes)
     (λ c. search place-within) (λ c. search place-within) (λ c. search rules) loop-holds
-    (λ c κs. (turn-sizes _ _ _ _ _ _ _ _ c.before.loop.invariant, turn-within _ _ _ _ _ _ _ _ c.before.loop.invariant)) (λ c. search rules)
+    (λ c κs. (turn_sizes _ _ _ _ _ _ _ _ c.before.loop.invariant, turn-within _ _ _ _ _ _ _ _ c.before.loop.invariant)) (λ c. search rules)
     (λ c. search rules) (λ c κs. search rules) (λ c κs. search rules) (λ c. cc)
-    (λ c. (search turn-short, reports-refused _ (λ z. omega arith) c.refused.ensures)) (λ c. omega (arith, uses c))
+    (λ c. (search turn-short, reports_refused _ (λ z. omega arith) c.refused.ensures)) (λ c. omega (arith, uses c))
     (λ c. record { fits = omega (arith, uses c) }) (λ c. record { fits = omega (arith, uses c) }) (λ c. search rules) (λ c κs. search rules)
     (λ c. search turn-bytes) (λ c. search turn-index) (λ c. search rules) (λ c. search rules) (λ c κs. search rules) (λ c. search turn-bytes)
-    (λ c. search turn-index) passes-edge-requires (λ c. search rules) (λ c. search turn-count) (λ c. search turn-less) loop-again
-    (λ c. search turn-less) loop-again-2 (λ c. search rules) (λ c. search rules) (λ c κs. search rules) (λ c. cc)
-    (λ c. (search turn-full, search turn-reports)))
+    (λ c. search turn-index) passes-edge-requires (λ c. search rules) (λ c. search turn_count) (λ c. search turn_less) loop-again
+    (λ c. search turn_less) loop-again-2 (λ c. search rules) (λ c. search rules) (λ c κs. search rules) (λ c. cc)
+    (λ c. (search turn_full, search turn_reports)))

@@ -1,7 +1,7 @@
 -- `beside_crt` draws what its kind names.
 use borrow.Author.Rules.{rules}
 use Rattle.signed_discrete_gaussian.specs.Lent.{lent}
-use Rattle.any_sampler.proofs.Drawing.{any-crt}
+use Rattle.any_sampler.proofs.Drawing.{any_crt}
 use Rattle.beside.specs.Calls.{named}
 use Rattle.beside.proofs.crt.beside_crt.Statement.{statement}
 use Rattle.beside.proofs.crt.beside_crt.Tie as tie
@@ -12,8 +12,8 @@ returns c =
     let made = drawn.before in
     let asked = made.before in
     let a = asked.before.before.before.before.before.before.before.before.before.args in
-    any-crt (lent a.bounds.now a.endpoints.now a.heights.now a.curve.now) a.words.now a.place (named a.kind a.a a.b a.p a.q)
+    any_crt (lent a.bounds.now a.endpoints.now a.heights.now a.curve.now) a.words.now a.place (named a.kind a.a a.b a.p a.q)
     (rw asked.by_kind.ensures at made.prepare.ensures) a.coefficient-count a.moduli.now a.output.now drawn.sample-crt-to.ensures
 
-pub beside-crt-spec : {M : Type 1} → statement M
-beside-crt-spec = tie.close (tie.spec (λ c κs. search rules) (λ c κs. search rules) (λ c κs. search rules) (λ c. search rules) returns)
+pub beside_crt_spec : {M : Type 1} → statement M
+beside_crt_spec = tie.close (tie.spec (λ c κs. search rules) (λ c κs. search rules) (λ c κs. search rules) (λ c. search rules) returns)

@@ -1,7 +1,7 @@
 -- `beside_signed` draws what its kind names.
 use borrow.Author.Rules.{rules}
 use Rattle.signed_discrete_gaussian.specs.Lent.{lent}
-use Rattle.any_sampler.proofs.Drawing.{any-signed}
+use Rattle.any_sampler.proofs.Drawing.{any_signed}
 use Rattle.beside.specs.Calls.{named}
 use Rattle.beside.proofs.signed.beside_signed.Statement.{statement}
 use Rattle.beside.proofs.signed.beside_signed.Tie as tie
@@ -12,8 +12,8 @@ returns c =
     let made = drawn.before.before in
     let asked = made.before in
     let a = asked.before.before.before.before.before.before.args in
-    any-signed (lent a.bounds.now a.endpoints.now a.heights.now a.curve.now) a.words.now a.place (named a.kind a.a a.b a.p a.q)
+    any_signed (lent a.bounds.now a.endpoints.now a.heights.now a.curve.now) a.words.now a.place (named a.kind a.a a.b a.p a.q)
     (rw asked.by_kind.ensures at made.prepare.ensures) a.output.now drawn.sample-signed-to.ensures
 
-pub beside-signed-spec : {M : Type 1} → statement M
-beside-signed-spec = tie.close (tie.spec (λ c κs. search rules) (λ c κs. search rules) (λ c κs. search rules) (λ c. search rules) returns)
+pub beside_signed_spec : {M : Type 1} → statement M
+beside_signed_spec = tie.close (tie.spec (λ c κs. search rules) (λ c κs. search rules) (λ c κs. search rules) (λ c. search rules) returns)

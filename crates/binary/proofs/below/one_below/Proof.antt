@@ -1,7 +1,7 @@
 -- `below::one_below`: what the bound leaves has its top bit set where the word is below the end.
 use native.Mathlib.Omega.{arith}
 use borrow.Author.Rules.{rules}
-use Rattle.binary.proofs.Halves.{bit-most, half-fits, half-within, half-tells}
+use Rattle.binary.proofs.Halves.{bit-most, half-fits, half-within, half_tells}
 use Rattle.binary.proofs.below.one_below.Statement.{statement}
 use Rattle.binary.proofs.below.one_below.Tie as tie
 
@@ -15,7 +15,7 @@ sub-result : tie.Need-overflow-sub-result
 sub-result c = half-within c.args.word (search rules) c.args.below c.args.odd
 
 returns : tie.Need-returns
-returns c = half-tells c.args.word (search rules) c.args.below c.args.odd (search rules)
+returns c = half_tells c.args.word (search rules) c.args.below c.args.odd (search rules)
 
-pub one-below-spec : {M : Type 1} → statement M
-one-below-spec = tie.close (tie.spec (λ c. search rules) add_half (λ c. search rules) add-bound-2 sub-result returns)
+pub one_below_spec : {M : Type 1} → statement M
+one_below_spec = tie.close (tie.spec (λ c. search rules) add_half (λ c. search rules) add-bound-2 sub-result returns)

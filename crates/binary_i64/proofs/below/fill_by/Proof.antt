@@ -6,21 +6,21 @@ use lib.IntN.{pos}
 use mir.Syntax.{w64}
 use mir.Facts.{to_z_pos}
 use borrow.Author.Rules.{sfits_of}
-use Rattle.distr.specs.Thresholds.{binaryValue}
-use Rattle.numbers.proofs.WideStores.{Stored, stored-none, stored_more, stored-all}
+use Rattle.distr.specs.Thresholds.{binary_value}
+use Rattle.numbers.proofs.WideStores.{Stored, stored_none, stored_more, stored-all}
 use Rattle.binary.specs.Below.{end_of}
 use Rattle.binary.proofs.Values.{one-signed, one-small}
 use Rattle.binary_i64.proofs.below.fill_by.Statement.{statement}
 use Rattle.binary_i64.proofs.below.fill_by.Tie as tie
 
 abbrev invariant-loop : tie.invariant-loop
-invariant-loop output₀ below odd words place n i₀ at₀ output i at = (at ≡ place + 2 * i) × Stored (binaryValue (end_of below odd)) words place output₀ i output
+invariant-loop output₀ below odd words place n i₀ at₀ output i at = (at ≡ place + 2 * i) × Stored (binary_value (end_of below odd)) words place output₀ i output
 
 abbrev decreases-loop : tie.decreases-loop
 decreases-loop output₀ below odd words place n i₀ at₀ output i at = n - i
 
 loop-holds : tie.Need-loop-init invariant-loop decreases-loop
-loop-holds c = (omega arith, stored-none _ _ _ _)
+loop-holds c = (omega arith, stored_none _ _ _ _)
 
 -- what is stored is 0 or 1
 small : (c : tie.After-one-below invariant-loop decreases-loop) → c.one_below.result < 2
@@ -40,8 +40,8 @@ loop-again c =
 returns : tie.Need-returns invariant-loop decreases-loop
 returns c = stored-all _ _ _ _ c.before.loop.invariant.1 (omega arith) c.before.before.before.requires
 
-pub fill-by-spec : {M : Type 1} → statement M
-fill-by-spec =
+pub fill_by_spec : {M : Type 1} → statement M
+fill_by_spec =
     tie.close
     (tie.spec invariant-loop decreases-loop loop-holds (λ c. omega arith) (λ c. omega arith) (λ c. omega arith) (λ c. omega arith) (λ c. omega arith) (λ c κs. tt)
     (λ c κs. tt) cast-output (λ c. omega arith) (λ c. omega arith) (λ c. omega arith) (λ c. omega arith) (λ c. omega arith) loop-again

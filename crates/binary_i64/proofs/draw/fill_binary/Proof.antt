@@ -7,40 +7,40 @@ use lib.IntN.{pos}
 use native.Mathlib.Omega.{arith}
 use borrow.Author.Rules.{rules}
 use Rattle.distr.specs.Skipped.{nothing}
-use Rattle.distr.specs.Thresholds.{binaryValue, binary}
-use Rattle.distr.proofs.Writing.{map-id}
-use Rattle.words.specs.Reading.{thresholdValue}
-use Rattle.numbers.specs.Answering.{wideRule}
+use Rattle.distr.specs.Thresholds.{binary_value, binary}
+use Rattle.distr.proofs.Writing.{map_id}
+use Rattle.words.specs.Reading.{threshold_value}
+use Rattle.numbers.specs.Answering.{wide_rule}
 use Rattle.numbers.proofs.WideNumbers.{answer-enough}
-use Rattle.numbers.proofs.WideDraws.{draw-cleared, draw-refused, draw-constant, draw-read, answer-reports}
+use Rattle.numbers.proofs.WideDraws.{draw_cleared, draw-refused, draw-constant, draw_read, answer_reports}
 use Rattle.binary.proofs.Values.{binary-rule, binary-skips}
 use Rattle.binary_i64.proofs.draw.fill_binary.Statement.{statement}
 use Rattle.binary_i64.proofs.draw.fill_binary.Tie as tie
 
 rule-of : (c : tie.Start) → let t = c.args.threshold in let n = length c.args.output.now in
-    binary (thresholdValue t) n ≡ wideRule (not t.full) (pos 1) (binaryValue t.below) n
-rule-of c = binary-rule c.args.threshold (length c.args.output.now) (omega (arith, c.well-formed.1.1.0))
+    binary (threshold_value t) n ≡ wide_rule (not t.full) (pos 1) (binary_value t.below) n
+rule-of c = binary-rule c.args.threshold (length c.args.output.now) (omega (arith, c.well_formed.1.1.0))
 
 skips-of : (c : tie.Start) → let a = c.args in
-    (binary (thresholdValue a.threshold) (length a.output.now)).skips (drop a.place a.words.now) ≡ nothing
-skips-of c = let a = c.args in binary-skips (thresholdValue a.threshold) (length a.output.now) (drop a.place a.words.now)
+    (binary (threshold_value a.threshold) (length a.output.now)).skips (drop a.place a.words.now) ≡ nothing
+skips-of c = let a = c.args in binary-skips (threshold_value a.threshold) (length a.output.now) (drop a.place a.words.now)
 
 returns : tie.Need-returns
 returns c =
     let told = c.before.before.before.before.before in
     let start = told.before.before.before in (
-      draw-cleared (λ cs. cs) (λ x. x) (λ cs. sym (map-id cs)) 0 (lit< tt) _ _ _ _ _ _ _ (rule-of start) _ told.answer-of.ensures _
+      draw_cleared (λ cs. cs) (λ x. x) (λ cs. sym (map_id cs)) 0 (lit< tt) _ _ _ _ _ _ _ (rule-of start) _ told.answer-of.ensures _
           c.before.before.before.if1.true c.before.clear.ensures,
-      answer-reports _ _ _ _ _ told.answer-of.ensures (skips-of start),
+      answer_reports _ _ _ _ _ told.answer-of.ensures (skips-of start),
     )
 
 returns-2 : tie.Need-returns-2
 returns-2 c =
     let told = c.before.before.before.before in
     let start = told.before.before.before in (
-      draw-refused (λ cs. cs) (λ x. x) (λ cs. sym (map-id cs)) 0 (lit< tt) _ _ _ _ _ _ _ (rule-of start) _ told.answer-of.ensures _
+      draw-refused (λ cs. cs) (λ x. x) (λ cs. sym (map_id cs)) 0 (lit< tt) _ _ _ _ _ _ _ (rule-of start) _ told.answer-of.ensures _
           c.before.before.if1.false c.if2.true refl,
-      answer-reports _ _ _ _ _ told.answer-of.ensures (skips-of start),
+      answer_reports _ _ _ _ _ told.answer-of.ensures (skips-of start),
     )
 
 returns-3 : tie.Need-returns-3
@@ -48,9 +48,9 @@ returns-3 c =
     let constant = c.before.before.before in
     let told = constant.before.before.before.before.before in
     let start = told.before.before.before in (
-      draw-constant (λ cs. cs) (λ x. x) (λ cs. sym (map-id cs)) 0 (lit< tt) _ _ _ _ _ _ _ (rule-of start) _ told.answer-of.ensures _
+      draw-constant (λ cs. cs) (λ x. x) (λ cs. sym (map_id cs)) 0 (lit< tt) _ _ _ _ _ _ _ (rule-of start) _ told.answer-of.ensures _
           constant.before.if2.false (rw constant.if3.true) c.before.fill.ensures,
-      answer-reports _ _ _ _ _ told.answer-of.ensures (skips-of start),
+      answer_reports _ _ _ _ _ told.answer-of.ensures (skips-of start),
     )
 
 fill-requires-2 : tie.Need-fill-requires-2
@@ -64,14 +64,14 @@ returns-4 c =
     let reading = c.before.before.before in
     let told = reading.before.before.before.before.before in
     let start = told.before.before.before in (
-      draw-read (λ cs. cs) (λ x. x) (λ cs. sym (map-id cs)) 0 (lit< tt) _ _ _ _ _ _ _ (rule-of start) _ told.answer-of.ensures _
+      draw_read (λ cs. cs) (λ x. x) (λ cs. sym (map_id cs)) 0 (lit< tt) _ _ _ _ _ _ _ (rule-of start) _ told.answer-of.ensures _
           reading.before.if2.false (rw reading.if3.false) (λ i. (told.before.before.shared-slice-known.given i).fits)
-          (binaryValue start.args.threshold.below) (λ w h. refl) c.before.fill2.ensures,
-      answer-reports _ _ _ _ _ told.answer-of.ensures (skips-of start),
+          (binary_value start.args.threshold.below) (λ w h. refl) c.before.fill2.ensures,
+      answer_reports _ _ _ _ _ told.answer-of.ensures (skips-of start),
     )
 
-pub fill-binary-spec : {M : Type 1} → statement M
-fill-binary-spec =
+pub fill_binary_spec : {M : Type 1} → statement M
+fill_binary_spec =
     tie.close
     (tie.spec (λ c κs. search rules) (λ c κs. search rules) (λ c. search rules) returns returns-2 (λ c κs. search rules) (λ c. search rules)
     returns-3 fill-requires-2 (λ c. search rules) returns-4)

@@ -2,21 +2,21 @@
 use mathlib.Core.Path.{◌≡◌, ◌∙◌}
 use Prim.Native.Nat.{◌+◌, ◌*◌, ◌-◌}
 use native.Mathlib.Omega.{arith}
-use Rattle.output_u64.specs.Out.{heldOne}
-use Rattle.numbers.proofs.WideStores.{Stored, stored-none, stored_more, stored-all}
-use Rattle.binary.specs.Below.{oneBelow, end_of}
+use Rattle.output_u64.specs.Out.{held_one}
+use Rattle.numbers.proofs.WideStores.{Stored, stored_none, stored_more, stored-all}
+use Rattle.binary.specs.Below.{one_below, end_of}
 use Rattle.binary.proofs.Values.{below-held}
 use Rattle.binary_u64.proofs.below.fill_by.Statement.{statement}
 use Rattle.binary_u64.proofs.below.fill_by.Tie as tie
 
 abbrev invariant-loop : tie.invariant-loop
-invariant-loop output₀ below odd words place n i₀ at₀ output i at = (at ≡ place + 2 * i) × Stored (oneBelow (end_of below odd)) words place output₀ i output
+invariant-loop output₀ below odd words place n i₀ at₀ output i at = (at ≡ place + 2 * i) × Stored (one_below (end_of below odd)) words place output₀ i output
 
 abbrev decreases-loop : tie.decreases-loop
 decreases-loop output₀ below odd words place n i₀ at₀ output i at = n - i
 
 loop-holds : tie.Need-loop-init invariant-loop decreases-loop
-loop-holds c = (omega arith, stored-none _ _ _ _)
+loop-holds c = (omega arith, stored_none _ _ _ _)
 
 loop-again : tie.Need-loop-preserved invariant-loop decreases-loop
 loop-again c =
@@ -26,10 +26,10 @@ loop-again c =
 returns : tie.Need-returns invariant-loop decreases-loop
 returns c =
     let start = c.before.before.before.before in
-    below-held (heldOne start.args.encoding) (end_of start.args.below start.args.odd) _ _ ∙ stored-all _ _ _ _ c.before.loop.invariant.1 (omega arith) start.requires
+    below-held (held_one start.args.encoding) (end_of start.args.below start.args.odd) _ _ ∙ stored-all _ _ _ _ c.before.loop.invariant.1 (omega arith) start.requires
 
-pub fill-by-spec : {M : Type 1} → statement M
-fill-by-spec =
+pub fill_by_spec : {M : Type 1} → statement M
+fill_by_spec =
     tie.close
     (tie.spec invariant-loop decreases-loop loop-holds (λ c. omega arith) (λ c. omega arith) (λ c. omega arith) (λ c. omega arith) (λ c. omega arith) (λ c κs. tt)
     (λ c κs. tt) (λ c. omega arith) (λ c. omega arith) (λ c. omega arith) (λ c. omega arith) (λ c. omega arith) loop-again

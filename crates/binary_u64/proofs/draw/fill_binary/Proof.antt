@@ -7,23 +7,23 @@ use lib.IntN.{pos}
 use native.Mathlib.Omega.{arith}
 use borrow.Author.Rules.{rules}
 use Rattle.distr.specs.Skipped.{nothing}
-use Rattle.distr.specs.Thresholds.{binaryValue, binary}
-use Rattle.output_u64.specs.Out.{heldOne, held}
-use Rattle.words.specs.Reading.{thresholdValue}
-use Rattle.numbers.specs.Answering.{wideRule}
+use Rattle.distr.specs.Thresholds.{binary_value, binary}
+use Rattle.output_u64.specs.Out.{held_one, held}
+use Rattle.words.specs.Reading.{threshold_value}
+use Rattle.numbers.specs.Answering.{wide_rule}
 use Rattle.numbers.proofs.WideNumbers.{answer-enough}
-use Rattle.numbers.proofs.WideDraws.{draw-cleared, draw-refused, draw-constant, draw-read, answer-reports}
+use Rattle.numbers.proofs.WideDraws.{draw_cleared, draw-refused, draw-constant, draw_read, answer_reports}
 use Rattle.binary.proofs.Values.{binary-rule, binary-skips}
 use Rattle.binary_u64.proofs.draw.fill_binary.Statement.{statement}
 use Rattle.binary_u64.proofs.draw.fill_binary.Tie as tie
 
 rule-of : (c : tie.Start) → let t = c.args.threshold in let n = length c.args.output.now in
-    binary (thresholdValue t) n ≡ wideRule (not t.full) (pos 1) (binaryValue t.below) n
-rule-of c = binary-rule c.args.threshold (length c.args.output.now) (omega (arith, c.well-formed.1.1.0))
+    binary (threshold_value t) n ≡ wide_rule (not t.full) (pos 1) (binary_value t.below) n
+rule-of c = binary-rule c.args.threshold (length c.args.output.now) (omega (arith, c.well_formed.1.1.0))
 
 skips-of : (c : tie.Start) → let a = c.args in
-    (binary (thresholdValue a.threshold) (length a.output.now)).skips (drop a.place a.words.now) ≡ nothing
-skips-of c = let a = c.args in binary-skips (thresholdValue a.threshold) (length a.output.now) (drop a.place a.words.now)
+    (binary (threshold_value a.threshold) (length a.output.now)).skips (drop a.place a.words.now) ≡ nothing
+skips-of c = let a = c.args in binary-skips (threshold_value a.threshold) (length a.output.now) (drop a.place a.words.now)
 
 returns : tie.Need-returns
 returns c =
@@ -31,9 +31,9 @@ returns c =
     let told = c.before.before.before.before.before.before in
     let start = told.before.before.before.before in
     let a = start.args in (
-      draw-cleared (held a.encoding) (heldOne a.encoding) (λ cs. refl) 0 (lit< tt) _ _ _ _ _ _ _ (rule-of start) _ told.answer-of.ensures _
+      draw_cleared (held a.encoding) (held_one a.encoding) (λ cs. refl) 0 (lit< tt) _ _ _ _ _ _ _ (rule-of start) _ told.answer-of.ensures _
           if1.true c.before.before.clear.ensures,
-      answer-reports _ _ _ _ _ told.answer-of.ensures (skips-of start),
+      answer_reports _ _ _ _ _ told.answer-of.ensures (skips-of start),
     )
 
 returns-2 : tie.Need-returns-2
@@ -41,9 +41,9 @@ returns-2 c =
     let told = c.before.before.before.before in
     let start = told.before.before.before.before in
     let a = start.args in (
-      draw-refused (held a.encoding) (heldOne a.encoding) (λ cs. refl) 0 (lit< tt) _ _ _ _ _ _ _ (rule-of start) _ told.answer-of.ensures _
+      draw-refused (held a.encoding) (held_one a.encoding) (λ cs. refl) 0 (lit< tt) _ _ _ _ _ _ _ (rule-of start) _ told.answer-of.ensures _
           c.before.before.if1.false c.if2.true refl,
-      answer-reports _ _ _ _ _ told.answer-of.ensures (skips-of start),
+      answer_reports _ _ _ _ _ told.answer-of.ensures (skips-of start),
     )
 
 returns-3 : tie.Need-returns-3
@@ -52,9 +52,9 @@ returns-3 c =
     let told = constant.before.before.before.before.before in
     let start = told.before.before.before.before in
     let a = start.args in (
-      draw-constant (held a.encoding) (heldOne a.encoding) (λ cs. refl) 0 (lit< tt) _ _ _ _ _ _ _ (rule-of start) _ told.answer-of.ensures _
+      draw-constant (held a.encoding) (held_one a.encoding) (λ cs. refl) 0 (lit< tt) _ _ _ _ _ _ _ (rule-of start) _ told.answer-of.ensures _
           constant.before.if2.false (rw constant.if3.true) c.before.before.fill.ensures,
-      answer-reports _ _ _ _ _ told.answer-of.ensures (skips-of start),
+      answer_reports _ _ _ _ _ told.answer-of.ensures (skips-of start),
     )
 
 fill-requires-2 : tie.Need-fill-requires-2
@@ -69,14 +69,14 @@ returns-4 c =
     let told = reading.before.before.before.before.before in
     let start = told.before.before.before.before in
     let a = start.args in (
-      draw-read (held a.encoding) (heldOne a.encoding) (λ cs. refl) 0 (lit< tt) _ _ _ _ _ _ _ (rule-of start) _ told.answer-of.ensures _
+      draw_read (held a.encoding) (held_one a.encoding) (λ cs. refl) 0 (lit< tt) _ _ _ _ _ _ _ (rule-of start) _ told.answer-of.ensures _
           reading.before.if2.false (rw reading.if3.false) (λ i. (told.before.before.shared-slice-known.given i).fits)
-          (λ w. heldOne a.encoding (binaryValue a.threshold.below w)) (λ w h. refl) c.before.before.fill2.ensures,
-      answer-reports _ _ _ _ _ told.answer-of.ensures (skips-of start),
+          (λ w. held_one a.encoding (binary_value a.threshold.below w)) (λ w h. refl) c.before.before.fill2.ensures,
+      answer_reports _ _ _ _ _ told.answer-of.ensures (skips-of start),
     )
 
-pub fill-binary-spec : {M : Type 1} → statement M
-fill-binary-spec =
+pub fill_binary_spec : {M : Type 1} → statement M
+fill_binary_spec =
     tie.close
     (tie.spec (λ c κs. search rules) (λ c κs. search rules) (λ c. search rules) returns returns-2 (λ c κs. search rules) (λ c. search rules)
     returns-3 fill-requires-2 (λ c. search rules) returns-4)

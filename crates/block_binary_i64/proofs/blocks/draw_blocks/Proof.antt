@@ -7,10 +7,10 @@ use native.Mathlib.Numerals.{add-one}
 use native.Mathlib.Omega.{arith}
 use borrow.Author.Rules.{rules}
 use lib.ListN.{length, get_or, drop, replicate, length-drop}
-use Rattle.distr.specs.Skipped.{passedEach}
-use Rattle.distr.proofs.Skipping.{reports-refused, reports-words}
-use Rattle.words.proofs.Places.{lentFrom, lent-all}
-use Rattle.block_binary.proofs.Blocks.{Turn, signed, turn-start, turn-room, turn-size, turn_more, turn-passed, turn-short, turn_end, turn-counts, small-none}
+use Rattle.distr.specs.Skipped.{passed_each}
+use Rattle.distr.proofs.Skipping.{reports_refused, reports_words}
+use Rattle.words.proofs.Places.{lent_from, lent-all}
+use Rattle.block_binary.proofs.Blocks.{Turn, signed, turn-start, turn-room, turn-size, turn_more, turn-passed, turn-short, turn_end, turn_counts, small_none}
 use Rattle.block_binary_i64.proofs.blocks.draw_blocks.Statement.{statement}
 use Rattle.block_binary_i64.proofs.blocks.draw_blocks.Tie as tie
 
@@ -42,7 +42,7 @@ returns c =
       rw c.refused.ensures
           (turn-short signed test.before.loop.invariant test.loop-test.true start.args.words.now start.args.place
           cleared.before.before.if1.true (lent-all start.args.words.now start.args.place) cleared.clear.ensures),
-      reports-refused _ (λ z. omega arith) c.refused.ensures,
+      reports_refused _ (λ z. omega arith) c.refused.ensures,
     )
 
 -- the block has room in the output
@@ -55,14 +55,14 @@ cast-fill-block c =
     let test = turn c.before.before in
     let start = begin test.before in
     let a = start.args in
-    omega (arith, mod-lt (get_or (lentFrom a.words.now a.place) test.before.loop.at 0) start.pre.1.0, start.fits.choices)
+    omega (arith, mod-lt (get_or (lent_from a.words.now a.place) test.before.loop.at 0) start.pre.1.0, start.fits.choices)
 
 fill-block-requires : tie.Need-fill-block-requires invariant-loop decreases-loop
 fill-block-requires c κs =
     let test = turn c.before.before in
     let asked = (begin test.before).pre in
     let size = turn-size signed test.before.loop.inv test.loop-test.taken in
-    (omega (arith, size, asked.0.0), small-none _ asked.0.3, λ f. lt_of_lt_of_le (mod-lt _ asked.1.0) (omega (arith, size, asked.1.1 f)))
+    (omega (arith, size, asked.0.0), small_none _ asked.0.3, λ f. lt_of_lt_of_le (mod-lt _ asked.1.0) (omega (arith, size, asked.1.1 f)))
 
 loop-again : tie.Need-loop-preserved invariant-loop decreases-loop
 loop-again c =
@@ -90,11 +90,11 @@ add-succeeded-after c =
 -- after the loop a word was taken for each block, and those that were passed over
 counted : (c : tie.After-loop invariant-loop decreases-loop) → let a = (begin c.before).args in
     let m = length a.output.now / a.block_size in
-    c.before.loop.at ≡ m + passedEach (replicate m a.choices) (drop a.place a.words.now)
+    c.before.loop.at ≡ m + passed_each (replicate m a.choices) (drop a.place a.words.now)
 counted c =
     let start = begin c.before in
     rw (lent-all start.args.words.now start.args.place) at
-    (turn-counts signed c.before.loop.invariant start.pre.0.0 c.loop-test.false)
+    (turn_counts signed c.before.loop.invariant start.pre.0.0 c.loop-test.false)
 
 returns-2 : tie.Need-returns-2 invariant-loop decreases-loop
 returns-2 c =
@@ -103,11 +103,11 @@ returns-2 c =
       rw c.succeeded-after.ensures
           (turn_end signed loop.loop.invariant start.pre.0.0 c.before.loop-test.false start.args.words.now
           start.args.place start.pre.0.2 (lent-all start.args.words.now start.args.place)),
-      reports-words c.succeeded-after.ensures (omega (arith, counted c.before)),
+      reports_words c.succeeded-after.ensures (omega (arith, counted c.before)),
     )
 
-pub draw-blocks-spec : {M : Type 1} → statement M
-draw-blocks-spec =
+pub draw_blocks_spec : {M : Type 1} → statement M
+draw_blocks_spec =
     tie.close
     (tie.spec invariant-loop decreases-loop (λ c. search rules) (λ c. search rules) (λ c. search rules) (λ c. search rules) loop-holds (λ c κs. search rules)
     (λ c κs. search rules) same_length returns (λ c. search rules) (λ c. search rules) (λ c. search rules) (λ c. search rules) (λ c. mod-le _ _)

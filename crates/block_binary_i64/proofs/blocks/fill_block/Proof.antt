@@ -8,7 +8,7 @@ use lib.IntN.{pos}
 use mir.Syntax.{w64}
 use mir.Val.{bool_byte, to_z}
 use borrow.Author.Rules.{rules}
-use Rattle.block_binary.proofs.Blocks.{byte_fits, position-room, position-put}
+use Rattle.block_binary.proofs.Blocks.{byte_fits, position_room, position_put}
 use Rattle.block_binary_i64.proofs.blocks.fill_block.Statement.{statement}
 use Rattle.block_binary_i64.proofs.blocks.fill_block.Tie as tie
 
@@ -19,7 +19,7 @@ inside c = c.before.before.before.before.requires.2 c.if1.true
 -- where the one or the zero goes in another there is room
 room : (c : tie.Else1) → let a = c.before.before.before.before.args in
     a.position * bool_byte (ltb a.position (length a.block.now)) < length a.block.now
-room c = let s = c.before.before.before.before in position-room (length s.args.block.now) s.args.position s.requires.0
+room c = let s = c.before.before.before.before in position_room (length s.args.block.now) s.args.position s.requires.0
 
 cast-block : tie.Need-overflow-cast-block
 cast-block c = let a = c.before.before.before.before.args in byte_fits (ltb a.position (length a.block.now))
@@ -33,10 +33,10 @@ returns-2 c =
     let n = length s.args.block.now in
     let written = bool_byte (ltb s.args.position n) in
     ap (λ l. set l (s.args.position * written) (to_z w64 written)) c.before.before.blank.ensures
-    ∙ position-put (to_z w64) n s.args.position s.requires.0
+    ∙ position_put (to_z w64) n s.args.position s.requires.0
 
-pub fill-block-spec : {M : Type 1} → statement M
-fill-block-spec =
+pub fill_block_spec : {M : Type 1} → statement M
+fill_block_spec =
     tie.close
     (tie.spec (λ c κs. search rules) (λ c. omega (arith, inside c)) (λ c. omega (arith, inside c)) (λ c. search rules) cast-block
     (λ c. omega (arith, room c)) (λ c. omega (arith, room c)) (λ c. omega (arith, room c)) (λ c. search rules) returns (λ c. search rules) returns-2)

@@ -7,7 +7,7 @@ use borrow.Author.Rules.{rules}
 use lib.ListN.{length}
 use mir.Val.{bool_byte}
 use Rattle.distr.specs.Blocks.{categories}
-use Rattle.distr.proofs.Skipping.{reports-refused}
+use Rattle.distr.proofs.Skipping.{reports_refused}
 use Rattle.block_binary.proofs.Refusals.{Accepted, refused, ready, drawn}
 use Rattle.block_binary_i64.proofs.draw.sample_block_binary_values_to.Statement.{statement}
 use Rattle.block_binary_i64.proofs.draw.sample_block_binary_values_to.Tie as tie
@@ -19,7 +19,7 @@ returns c =
       rw c.refused.ensures
           (refused (λ cs. cs) a.words.now _ _ a.occupancy _ told.before.block-number.ensures told.draw-number.ensures
           c.before.if1.true),
-      reports-refused _ c.before.if1.true c.refused.ensures,
+      reports_refused _ c.before.if1.true c.refused.ensures,
     )
 
 -- what is known where nothing refuses
@@ -61,8 +61,8 @@ returns-3 c =
     drawn (λ cs. cs) a.words.now _ a.block_size a.occupancy a.output.now told.before.block-number.ensures
     told.draw-number.ensures one.before.before.if1.false same drew.draw-blocks2.result drew.draw-blocks2.ensures
 
-pub sample-block-binary-values-to-spec : {M : Type 1} → statement M
-sample-block-binary-values-to-spec =
+pub sample_block_binary_values_to_spec : {M : Type 1} → statement M
+sample_block_binary_values_to_spec =
     tie.close
     (tie.spec (λ c κs. search rules) (λ c κs. search rules) (λ c κs. search rules) returns (λ c. omega (arith, (good c).small))
     (λ c. search rules) draw-blocks-requires (λ c. search rules) (λ c. omega (arith, (good c.before.before.before).small)) draw-blocks-requires-2

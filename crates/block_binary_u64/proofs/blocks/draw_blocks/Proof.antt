@@ -7,12 +7,12 @@ use native.Mathlib.Numerals.{add-one}
 use native.Mathlib.Omega.{arith}
 use borrow.Author.Rules.{rules}
 use lib.ListN.{length, get_or, drop, replicate, length-drop}
-use Rattle.distr.specs.Skipped.{passedEach}
-use Rattle.distr.proofs.Skipping.{reports-refused, reports-words}
-use Rattle.words.proofs.Places.{lentFrom, lent-all}
+use Rattle.distr.specs.Skipped.{passed_each}
+use Rattle.distr.proofs.Skipping.{reports_refused, reports_words}
+use Rattle.words.proofs.Places.{lent_from, lent-all}
 use Rattle.output_u64.specs.declared.Encoding.{Encoding}
-use Rattle.output_u64.specs.Out.{heldOne, held}
-use Rattle.block_binary.proofs.Blocks.{Turn, mapped, turn-start, turn-room, turn-size, turn_more, turn-passed, turn-short, turn_end, turn-counts, small-none}
+use Rattle.output_u64.specs.Out.{held_one, held}
+use Rattle.block_binary.proofs.Blocks.{Turn, mapped, turn-start, turn-room, turn-size, turn_more, turn-passed, turn-short, turn_end, turn_counts, small_none}
 use Rattle.block_binary_u64.proofs.blocks.draw_blocks.Statement.{statement}
 use Rattle.block_binary_u64.proofs.blocks.draw_blocks.Tie as tie
 
@@ -47,29 +47,29 @@ returns c =
     let start = begin test.before in
     let encoding = start.args.encoding in (
       rw c.refused.ensures
-          (turn-short (mapped (heldOne encoding)) (test.before.loop.invariant encoding) test.loop-test.true start.args.words.now start.args.place
+          (turn-short (mapped (held_one encoding)) (test.before.loop.invariant encoding) test.loop-test.true start.args.words.now start.args.place
           cleared.before.before.if1.true (lent-all start.args.words.now start.args.place) cleared.clear.ensures),
-      reports-refused _ (λ z. omega arith) c.refused.ensures,
+      reports_refused _ (λ z. omega arith) c.refused.ensures,
     )
 
 -- the block has room in the output
 room : (c : tie.Then2 invariant-loop decreases-loop) → let test = turn c.before in
     test.before.loop.start + (begin test.before).args.block_size ≤ length test.before.loop.output
-room c = let test = turn c.before in turn-room (mapped (heldOne any)) (test.before.loop.inv any) test.loop-test.taken
+room c = let test = turn c.before in turn-room (mapped (held_one any)) (test.before.loop.inv any) test.loop-test.taken
 
 cast-fill-block : tie.Need-overflow-cast-fill-block invariant-loop decreases-loop
 cast-fill-block c =
     let test = turn c.before.before in
     let start = begin test.before in
     let a = start.args in
-    omega (arith, mod-lt (get_or (lentFrom a.words.now a.place) test.before.loop.at 0) start.pre.1.0, start.fits.choices)
+    omega (arith, mod-lt (get_or (lent_from a.words.now a.place) test.before.loop.at 0) start.pre.1.0, start.fits.choices)
 
 fill-block-requires : tie.Need-fill-block-requires invariant-loop decreases-loop
 fill-block-requires c κs =
     let test = turn c.before.before in
     let asked = (begin test.before).pre in
-    let size = turn-size (mapped (heldOne any)) (test.before.loop.inv any) test.loop-test.taken in
-    (omega (arith, size, asked.0.0), small-none _ asked.0.3, λ f. lt_of_lt_of_le (mod-lt _ asked.1.0) (omega (arith, size, asked.1.1 f)))
+    let size = turn-size (mapped (held_one any)) (test.before.loop.inv any) test.loop-test.taken in
+    (omega (arith, size, asked.0.0), small_none _ asked.0.3, λ f. lt_of_lt_of_le (mod-lt _ asked.1.0) (omega (arith, size, asked.1.1 f)))
 
 loop-again : tie.Need-loop-preserved invariant-loop decreases-loop
 loop-again c encoding =
@@ -77,7 +77,7 @@ loop-again c encoding =
     let test = turn if2.before in
     let start = begin test.before in
     rw (add-one test.before.loop.at)
-    (turn_more (mapped (heldOne encoding)) (test.before.loop.inv encoding) test.loop-test.taken start.pre.1.0
+    (turn_more (mapped (held_one encoding)) (test.before.loop.inv encoding) test.loop-test.taken start.pre.1.0
     (omega (arith, start.fits.choices)) if2.before.before.if1.false if2.if2.true
     c.before.before.fill-block.ensures c.before.output2.given.1)
 
@@ -86,7 +86,7 @@ loop-again-2 c encoding =
     let test = turn c.before in
     let start = begin test.before in
     rw (add-one test.before.loop.at)
-    (turn-passed (mapped (heldOne encoding)) (test.before.loop.inv encoding) test.loop-test.taken start.pre.1.0
+    (turn-passed (mapped (held_one encoding)) (test.before.loop.inv encoding) test.loop-test.taken start.pre.1.0
     (omega (arith, start.fits.choices)) c.before.before.if1.false c.if2.false)
 
 -- the words were read up to a place of theirs
@@ -98,11 +98,11 @@ add-succeeded-after c =
 -- after the loop a word was taken for each block, and those that were passed over
 counted : (c : tie.After-loop invariant-loop decreases-loop) → let a = (begin c.before).args in
     let m = length a.output.now / a.block_size in
-    c.before.loop.at ≡ m + passedEach (replicate m a.choices) (drop a.place a.words.now)
+    c.before.loop.at ≡ m + passed_each (replicate m a.choices) (drop a.place a.words.now)
 counted c =
     let start = begin c.before in
     rw (lent-all start.args.words.now start.args.place) at
-    (turn-counts (mapped (heldOne any)) (c.before.loop.invariant any) start.pre.0.0 c.loop-test.false)
+    (turn_counts (mapped (held_one any)) (c.before.loop.invariant any) start.pre.0.0 c.loop-test.false)
 
 returns-2 : tie.Need-returns-2 invariant-loop decreases-loop
 returns-2 c =
@@ -110,13 +110,13 @@ returns-2 c =
     let start = begin loop in
     let encoding = start.args.encoding in (
       rw c.succeeded-after.ensures
-          (turn_end (mapped (heldOne encoding)) (loop.loop.invariant encoding) start.pre.0.0 c.before.loop-test.false start.args.words.now
+          (turn_end (mapped (held_one encoding)) (loop.loop.invariant encoding) start.pre.0.0 c.before.loop-test.false start.args.words.now
           start.args.place start.pre.0.2 (lent-all start.args.words.now start.args.place)),
-      reports-words c.succeeded-after.ensures (omega (arith, counted c.before)),
+      reports_words c.succeeded-after.ensures (omega (arith, counted c.before)),
     )
 
-pub draw-blocks-spec : {M : Type 1} → statement M
-draw-blocks-spec =
+pub draw_blocks_spec : {M : Type 1} → statement M
+draw_blocks_spec =
     tie.close
     (tie.spec invariant-loop decreases-loop (λ c. search rules) (λ c. search rules) (λ c. search rules) (λ c. search rules) loop-holds (λ c κs. search rules)
     (λ c κs. search rules) same_length returns (λ c. search rules) (λ c. search rules) (λ c. search rules) (λ c. search rules) (λ c. mod-le _ _)

@@ -10,5 +10,5 @@ returns c =
     let a = drawn.before.before.before.args in
     signed-answered a.words.now a.place a.output.now drawn.sample-uniform-ternary-values-by-division-to.ensures
 
-pub sample-uniform-ternary-values-by-division-to-spec : {M : Type 1} → statement M
-sample-uniform-ternary-values-by-division-to-spec = tie.close (tie.spec (λ c κs. search rules) (λ c. search rules) returns)
+pub sample_uniform_ternary_values_by_division_to_spec : {M : Type 1} → statement M
+sample_uniform_ternary_values_by_division_to_spec = tie.close (tie.spec (λ c κs. search rules) (λ c. search rules) returns)

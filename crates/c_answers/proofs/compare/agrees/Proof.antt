@@ -1,6 +1,6 @@
 -- `compare::agrees` compares the number, how many coefficients follow it, and the output.
 use Rattle.std.proofs.Common.{◌≡◌, ℕ, ◌-◌, ◌<◌, false, cond, ◌&&◌, eqb, List, [], ◌∷◌, length, get_or, take, drop, refl, ⊎_elim, arith, length-drop, take_all, rules, eq-eqb, ne_eqb}
-use Rattle.c_answers.specs.Answer.{expected as expectedAt, all_below, agreeing}
+use Rattle.c_answers.specs.Answer.{expected as expected_at, all_below, agreeing}
 use Rattle.c_answers.proofs.compare.agrees.Statement.{statement}
 use Rattle.c_answers.proofs.compare.agrees.Tie as tie
 
@@ -13,7 +13,7 @@ none (n ∷ s) number output h = absurd (omega arith)
 -- a number is stored, and what follows it
 some : (s : List ℕ) (number count : ℕ) (output : List ℕ) → 0 < length s → count ≡ cond (eqb number 0) (length output) 0
     → ((eqb (get_or s 0 0) number && eqb (length (drop 1 s)) count)
-    && all_below (length output) (λ i. eqb (get_or output i 0) (expectedAt (drop 1 s) number i)))
+    && all_below (length output) (λ i. eqb (get_or output i 0) (expected_at (drop 1 s) number i)))
     ≡ agreeing s number output
 unfolding agreeing
 some [] number count output h e = absurd (omega arith)
@@ -33,7 +33,7 @@ returns-2 c =
     ⊎_elim (λ w. rw (eq-eqb _ _ w.0.taken) w.1) (λ w. rw (ne_eqb _ _ w.0.left) w.1) c.before.before.if2.branch in
     rw (c.is-expected.ensures, tail s) (some s a.number c.before.before.if2.count a.output.now (omega arith) counted)
 
-pub agrees-spec : {M : Type 1} → statement M
-agrees-spec =
+pub agrees_spec : {M : Type 1} → statement M
+agrees_spec =
     tie.close
     (tie.spec returns (λ c. search rules) (λ c. search rules) (λ c. search rules) (λ c. search rules) (λ c κs. search rules) returns-2)

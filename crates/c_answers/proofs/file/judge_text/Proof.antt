@@ -9,8 +9,8 @@ invariant-loop text numbers₀ state₀ ended₀ i₀ numbers state ended i = Un
 abbrev decreases-loop : tie.decreases-loop
 decreases-loop text numbers₀ state₀ ended₀ i₀ numbers state ended i = length text - i
 
-pub judge-text-spec : {M : Type 1} → statement M
-judge-text-spec =
+pub judge_text_spec : {M : Type 1} → statement M
+judge_text_spec =
     tie.close
     (tie.spec invariant-loop decreases-loop (λ c κs. search rules) (λ c κs. search rules) (λ c. search rules) (λ c. search rules) (λ c κs. search rules)
     (λ c. search rules) (λ c. search rules) (λ c. search rules) (λ c. search rules) (λ c. search rules) (λ c κs. search rules) (λ c. search rules))

@@ -9,8 +9,8 @@ invariant-loop bytes₀ values good₀ i₀ bytes good i = length bytes ≡ leng
 abbrev decreases-loop : tie.decreases-loop
 decreases-loop bytes₀ values good₀ i₀ bytes good i = length bytes₀ - i
 
-pub fill-bytes-spec : {M : Type 1} → statement M
-fill-bytes-spec =
+pub fill_bytes_spec : {M : Type 1} → statement M
+fill_bytes_spec =
     tie.close
     (tie.spec invariant-loop decreases-loop (λ c. search rules) (λ c κs. search rules) (λ c. search rules) (λ c. search rules) (λ c. search rules)
     (λ c. search rules) (λ c. search rules) (λ c. search rules) (λ c. search rules))

@@ -21,8 +21,8 @@ end-requires c κs = tt
 returns : tie.Need-returns invariant-loop decreases-loop
 returns c = tt
 
-pub coefficients-spec : {M : Type 1} → statement M
-coefficients-spec =
+pub coefficients_spec : {M : Type 1} → statement M
+coefficients_spec =
     tie.close
     (tie.spec invariant-loop decreases-loop (λ c. omega arith) (λ c. search rules) (λ c. search rules) signed-requires (λ c. omega arith)
     (λ c. omega arith) (λ c. omega arith) end-requires returns)

@@ -10,7 +10,7 @@ invariant-loop endpoints₀ i₀ endpoints i = i ≤ 129
 abbrev decreases-loop : tie.decreases-loop
 decreases-loop endpoints₀ i₀ endpoints i = 129 - i
 
-pub endpoints-spec : {M : Type 1} → statement M
-endpoints-spec =
+pub endpoints_spec : {M : Type 1} → statement M
+endpoints_spec =
     tie.close
     (tie.spec invariant-loop decreases-loop (λ c. omega arith) (λ c. omega arith) (λ c. omega arith) (λ c. omega arith) (λ c. omega arith) (λ c. omega arith) (λ c. omega arith) (λ c. tt))

@@ -11,8 +11,8 @@ invariant-loop heights₀ i₀ heights i = i ≤ 129
 abbrev decreases-loop : tie.decreases-loop
 decreases-loop heights₀ i₀ heights i = 129 - i
 
-pub heights-spec : {M : Type 1} → statement M
-heights-spec =
+pub heights_spec : {M : Type 1} → statement M
+heights_spec =
     tie.close
     (tie.spec invariant-loop decreases-loop (λ c. omega arith) (λ c. omega arith) (λ c. omega arith) (λ c. search rules) (λ c. omega arith) (λ c. omega arith) (λ c. omega arith)
     (λ c. omega arith) (λ c. omega arith) (λ c. tt))

@@ -6,7 +6,7 @@ use native.Mathlib.Numerals.{add-one}
 use native.Mathlib.Omega.{arith}
 use lib.ListN.{length, drop}
 use Rattle.cdt.specs.Guided.{climbed}
-use Rattle.cdt.proofs.Climbing.{climb-stop, climb-on, climb-end}
+use Rattle.cdt.proofs.Climbing.{climb_stop, climb_on, climb_end}
 use Rattle.cdt.proofs.index.index_from.Statement.{statement}
 use Rattle.cdt.proofs.index.index_from.Tie as tie
 
@@ -19,17 +19,17 @@ decreases-loop ends word start at₀ at = length ends - at
 returns : tie.Need-returns invariant-loop decreases-loop
 returns c =
     let turn = c.before.before.before in
-    sym (climb-stop _ _ turn.loop.at c.before.before.loop-test.true c.if1.true) ∙ turn.loop.invariant
+    sym (climb_stop _ _ turn.loop.at c.before.before.loop-test.true c.if1.true) ∙ turn.loop.invariant
 
 loop-again : tie.Need-loop-preserved invariant-loop decreases-loop
 loop-again c =
     let turn = c.before.before.before in
-    rw (add-one turn.loop.at) (sym (climb-on _ _ turn.loop.at c.before.before.loop-test.true c.if1.false) ∙ turn.loop.invariant)
+    rw (add-one turn.loop.at) (sym (climb_on _ _ turn.loop.at c.before.before.loop-test.true c.if1.false) ∙ turn.loop.invariant)
 
 returns-2 : tie.Need-returns-2 invariant-loop decreases-loop
-returns-2 c = sym (climb-end _ _ c.before.loop.at c.loop-test.false) ∙ c.before.loop.invariant
+returns-2 c = sym (climb_end _ _ c.before.loop.at c.loop-test.false) ∙ c.before.loop.invariant
 
-pub index-from-spec : {M : Type 1} → statement M
-index-from-spec =
+pub index_from_spec : {M : Type 1} → statement M
+index_from_spec =
     tie.close
     (tie.spec invariant-loop decreases-loop (λ c. refl) (λ c. omega arith) (λ c. omega arith) returns (λ c. omega arith) (λ c. omega arith) loop-again returns-2)

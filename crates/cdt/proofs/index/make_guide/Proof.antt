@@ -2,7 +2,7 @@
 use Prim.Native.Nat.{◌-◌}
 use native.Mathlib.Omega.{arith}
 use borrow.Author.Rules.{rules}
-use Rattle.cdt.proofs.Climbing.{Filling, filling-none, filling-more}
+use Rattle.cdt.proofs.Climbing.{Filling, filling_none, filling_more}
 use Rattle.cdt.proofs.index.make_guide.Statement.{statement}
 use Rattle.cdt.proofs.index.make_guide.Tie as tie
 
@@ -15,13 +15,13 @@ decreases-loop ends guide₀ at₀ k₀ guide at k = 256 - k
 loop-again : tie.Need-loop-preserved invariant-loop decreases-loop
 loop-again c =
     let turn = c.before.before.loop in
-    filling-more _ turn.guide turn.at turn.k turn.invariant c.before.loop-test.true c.index-from.ensures
+    filling_more _ turn.guide turn.at turn.k turn.invariant c.before.loop-test.true c.index-from.ensures
 
 returns : tie.Need-returns invariant-loop decreases-loop
 returns c = λ k h. c.before.loop.invariant.entries k (omega arith)
 
-pub make-guide-spec : {M : Type 1} → statement M
-make-guide-spec =
+pub make_guide_spec : {M : Type 1} → statement M
+make_guide_spec =
     tie.close
-    (tie.spec invariant-loop decreases-loop (λ c κs. search rules) (λ c. filling-none _ _ c.guide-room.ensures) (λ c. omega arith) (λ c κs. tt)
+    (tie.spec invariant-loop decreases-loop (λ c κs. search rules) (λ c. filling_none _ _ c.guide-room.ensures) (λ c. omega arith) (λ c κs. tt)
     (λ c. omega arith) (λ c. omega arith) (λ c. omega arith) (λ c. omega arith) loop-again returns)

@@ -2,15 +2,15 @@
 use mathlib.Core.Path.{refl}
 use Prim.Native.Nat.{◌-◌}
 use native.Mathlib.Omega.{arith}
-use Rattle.distr.specs.Gaussian.{cumulativeValue}
-use Rattle.numbers.proofs.WideStores.{Stored, stored-none, stored_more, stored-all}
+use Rattle.distr.specs.Gaussian.{cumulative_value}
+use Rattle.numbers.proofs.WideStores.{Stored, stored_none, stored_more, stored-all}
 use Rattle.cdt.proofs.Climbing.{last_fits, last_within, sampled-signed}
 use Rattle.cdt_i64.proofs.store.fill.Statement.{statement}
 use Rattle.cdt_i64.proofs.store.fill.Tie as tie
 
 abbrev invariant-loop : tie.invariant-loop
 invariant-loop output₀ encoding top bounds words place n last ends guide i₀ output i =
-    Stored (cumulativeValue top bounds) words place output₀ i output
+    Stored (cumulative_value top bounds) words place output₀ i output
 
 abbrev decreases-loop : tie.decreases-loop
 decreases-loop output₀ encoding top bounds words place n last ends guide i₀ output i = n - i
@@ -24,6 +24,6 @@ pub fill_spec : {M : Type 1} → statement M
 fill_spec =
     tie.close
     (tie.spec invariant-loop decreases-loop (λ c. search last_fits) (λ c. omega arith) (λ c. omega arith) (λ c. search last_within) (λ c κs. tt)
-    (λ c. search stored-none) (λ c. omega arith) (λ c. omega arith) (λ c. omega arith) (λ c. omega arith) (λ c. omega arith) (λ c. omega arith)
+    (λ c. search stored_none) (λ c. omega arith) (λ c. omega arith) (λ c. omega arith) (λ c. omega arith) (λ c. omega arith) (λ c. omega arith)
     (λ c. omega arith) (λ c κs. tt) (λ c κs. tt) (λ c κs. tt) (λ c. omega arith) (λ c. omega arith) (λ c. omega arith) (λ c. omega arith) loop-again
     (λ c. cc) (λ c. search stored-all))

@@ -3,7 +3,7 @@ use Rattle.centered_binomial.proofs.CenteredBinomialParameters.new.Statement.{st
 use Rattle.centered_binomial.proofs.CenteredBinomialParameters.new.Tie as tie
 use native.Mathlib.Omega.{arith}
 use Prim.Native.Nat.{◌≤◌}
-use Rattle.distr.specs.Making.{errorNumber}
+use Rattle.distr.specs.Making.{error_number}
 use Rattle.distr.proofs.Reading.{both_true}
 use Rattle.centered_binomial.proofs.Made.{one_up}
 use borrow.Author.Tests.{leb-true}
@@ -20,11 +20,11 @@ sub-t8 : tie.Need-overflow-sub-t8
 sub-t8 c = rw (one_up c.before.args.eta (small c)) (pow_pos c.before.args.eta)
 
 returns : tie.Need-returns
-unfolding errorNumber
+unfolding error_number
 returns c = rw (one_up c.before.args.eta (small c), c.if1.true)
 
 returns-2 : tie.Need-returns-2
-unfolding errorNumber
+unfolding error_number
 returns-2 c = rw c.if1.false
 
 pub new_spec : {M : Type 1} → statement M

@@ -2,7 +2,7 @@
 use lib.Ieee.{of_bits, round}
 use borrow.Author.Rules.{rules}
 use Rattle.centered_binomial.specs.Deviation.{root}
-use Rattle.centered_binomial.proofs.Deviations.{nearest, table-value, no-deviation}
+use Rattle.centered_binomial.proofs.Deviations.{nearest, table-value, no_deviation}
 use Rattle.centered_binomial.proofs.deviation.standard_deviation.Statement.{statement}
 use Rattle.centered_binomial.proofs.deviation.standard_deviation.Tie as tie
 
@@ -16,9 +16,9 @@ returns c =
 returns-2 : tie.Need-returns-2
 unfolding of_bits round
 returns-2 c =
-    let value = no-deviation c.before.args.eta c.if1.false in
+    let value = no_deviation c.before.args.eta c.if1.false in
     (value, λ e. rw value (nearest c.before.args.eta e))
 
-pub standard-deviation-spec : {M : Type 1} → statement M
-standard-deviation-spec =
+pub standard_deviation_spec : {M : Type 1} → statement M
+standard_deviation_spec =
     tie.close (tie.spec (λ c. search rules) (λ c. search rules) (λ c. search rules) (λ c. search rules) returns returns-2)

@@ -5,14 +5,14 @@ use native.Mathlib.Omega.{arith}
 use mir.Syntax.{w64}
 use mir.Facts.{to_z-of_z}
 use borrow.Author.Rules.{rules, sfits_of}
-use Rattle.distr.specs.CenteredBinomial.{binomialValue}
-use Rattle.numbers.proofs.WideStores.{Stored, stored-none, stored_more, stored-all}
+use Rattle.distr.specs.CenteredBinomial.{binomial_value}
+use Rattle.numbers.proofs.WideStores.{Stored, stored_none, stored_more, stored-all}
 use Rattle.centered_binomial.proofs.Counting.{counted}
 use Rattle.centered_binomial_i64.proofs.store.fill.Statement.{statement}
 use Rattle.centered_binomial_i64.proofs.store.fill.Tie as tie
 
 abbrev invariant-loop : tie.invariant-loop
-invariant-loop output₀ encoding parameters words place n upper i₀ output i = Stored (binomialValue parameters.eta) words place output₀ i output
+invariant-loop output₀ encoding parameters words place n upper i₀ output i = Stored (binomial_value parameters.eta) words place output₀ i output
 
 abbrev decreases-loop : tie.decreases-loop
 decreases-loop output₀ encoding parameters words place n upper i₀ output i = n - i
@@ -36,6 +36,6 @@ returns c =
 pub fill_spec : {M : Type 1} → statement M
 fill_spec =
     tie.close
-    (tie.spec invariant-loop decreases-loop (λ c κs. search rules) (λ c. stored-none _ _ _ _) (λ c. omega arith) (λ c. omega arith) (λ c. omega arith)
+    (tie.spec invariant-loop decreases-loop (λ c κs. search rules) (λ c. stored_none _ _ _ _) (λ c. omega arith) (λ c. omega arith) (λ c. omega arith)
     (λ c. omega arith) (λ c. omega arith) (λ c. omega arith) (λ c. omega arith) (λ c κs. tt) (λ c κs. tt) (λ c κs. tt) (λ c. omega arith)
     (λ c. omega arith) (λ c. omega arith) (λ c. omega arith) loop-again (λ c. c.before.loop.invariant.same_length) returns)

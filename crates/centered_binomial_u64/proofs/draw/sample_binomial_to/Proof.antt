@@ -5,20 +5,20 @@ use lib.Dec.{lit<}
 use lib.IntN.{pos}
 use native.Mathlib.Omega.{arith}
 use borrow.Author.Rules.{rules}
-use Rattle.distr.specs.CenteredBinomial.{binomialValue}
-use Rattle.distr.proofs.Skipping.{reports-refused}
-use Rattle.output_u64.specs.Out.{heldOne, held}
-use Rattle.numbers.proofs.WideDraws.{draw-cleared, draw-refused, draw-read, answer-reports}
-use Rattle.centered_binomial.specs.Binomial.{isMadeBinomial}
-use Rattle.centered_binomial.proofs.Drawing.{never-made, is_made, fill-ready}
+use Rattle.distr.specs.CenteredBinomial.{binomial_value}
+use Rattle.distr.proofs.Skipping.{reports_refused}
+use Rattle.output_u64.specs.Out.{held_one, held}
+use Rattle.numbers.proofs.WideDraws.{draw_cleared, draw-refused, draw_read, answer_reports}
+use Rattle.centered_binomial.specs.Binomial.{is_made_binomial}
+use Rattle.centered_binomial.proofs.Drawing.{never_made_lem, is_made, fill_ready}
 use Rattle.centered_binomial_u64.proofs.draw.sample_binomial_to.Statement.{statement}
 use Rattle.centered_binomial_u64.proofs.draw.sample_binomial_to.Tie as tie
 
-made : (c : tie.Else1) → isMadeBinomial c.before.before.before.before.args.parameters ≡ true
+made : (c : tie.Else1) → is_made_binomial c.before.before.before.before.args.parameters ≡ true
 made c = search is_made
 
 returns : tie.Need-returns
-returns c = (search never-made, reports-refused _ (λ z. omega arith) c.refused.ensures)
+returns c = (search never_made_lem, reports_refused _ (λ z. omega arith) c.refused.ensures)
 
 returns-2 : tie.Need-returns-2
 returns-2 c =
@@ -26,10 +26,10 @@ returns-2 c =
     let told = c.before.before.before.before.before.before in
     let a = told.before.before.before.before.before.args in (
       rw (made told.before)
-          (draw-read (held a.encoding) (heldOne a.encoding) (λ cs. refl) 0 (lit< tt) a.words.now a.place a.output.now (pos 0)
-          (binomialValue a.parameters.eta) _ true refl _ told.answer-of.ensures _ if2.true refl
+          (draw_read (held a.encoding) (held_one a.encoding) (λ cs. refl) 0 (lit< tt) a.words.now a.place a.output.now (pos 0)
+          (binomial_value a.parameters.eta) _ true refl _ told.answer-of.ensures _ if2.true refl
           (λ i. (told.before.before.before.shared-slice-known.given i).fits) _ (λ w h. refl) c.before.before.fill.ensures),
-      answer-reports _ _ _ _ _ told.answer-of.ensures refl,
+      answer_reports _ _ _ _ _ told.answer-of.ensures refl,
     )
 
 returns-3 : tie.Need-returns-3
@@ -38,10 +38,10 @@ returns-3 c =
     let told = c.before.before.before.before.before.before.before.before in
     let a = told.before.before.before.before.before.args in (
       rw (made told.before)
-          (draw-cleared (held a.encoding) (heldOne a.encoding) (λ cs. refl) 0 (lit< tt) a.words.now a.place a.output.now (pos 0)
-          (binomialValue a.parameters.eta) _ true refl _ told.answer-of.ensures _ if3.true
+          (draw_cleared (held a.encoding) (held_one a.encoding) (λ cs. refl) 0 (lit< tt) a.words.now a.place a.output.now (pos 0)
+          (binomial_value a.parameters.eta) _ true refl _ told.answer-of.ensures _ if3.true
           c.before.before.clear.ensures),
-      answer-reports _ _ _ _ _ told.answer-of.ensures refl,
+      answer_reports _ _ _ _ _ told.answer-of.ensures refl,
     )
 
 returns-4 : tie.Need-returns-4
@@ -49,13 +49,13 @@ returns-4 c =
     let told = c.before.before.before.before in
     let a = told.before.before.before.before.before.args in (
       rw (made told.before)
-          (draw-refused (held a.encoding) (heldOne a.encoding) (λ cs. refl) 0 (lit< tt) a.words.now a.place a.output.now (pos 0)
-          (binomialValue a.parameters.eta) _ true refl _ told.answer-of.ensures _ c.if3.false c.before.before.if2.false refl),
-      answer-reports _ _ _ _ _ told.answer-of.ensures refl,
+          (draw-refused (held a.encoding) (held_one a.encoding) (λ cs. refl) 0 (lit< tt) a.words.now a.place a.output.now (pos 0)
+          (binomial_value a.parameters.eta) _ true refl _ told.answer-of.ensures _ c.if3.false c.before.before.if2.false refl),
+      answer_reports _ _ _ _ _ told.answer-of.ensures refl,
     )
 
-pub sample-binomial-to-spec : {M : Type 1} → statement M
-sample-binomial-to-spec =
+pub sample_binomial_to_spec : {M : Type 1} → statement M
+sample_binomial_to_spec =
     tie.close
-    (tie.spec (λ c κs. search rules) (λ c κs. tt) returns (λ c κs. search rules) (λ c κs. search fill-ready) (λ c. search rules)
+    (tie.spec (λ c κs. search rules) (λ c κs. tt) returns (λ c κs. search rules) (λ c κs. search fill_ready) (λ c. search rules)
     returns-2 (λ c κs. search rules) (λ c. search rules) returns-3 returns-4)

@@ -3,15 +3,15 @@ use mathlib.Core.Path.{refl, ap, ◌∙◌}
 use Prim.Native.Nat.{◌-◌}
 use native.Mathlib.Omega.{arith}
 use borrow.Author.Rules.{rules}
-use Rattle.distr.specs.CenteredBinomial.{binomialValue}
-use Rattle.output_u64.specs.Out.{heldOne}
-use Rattle.numbers.proofs.WideStores.{Stored, stored-none, stored_more, stored-all}
+use Rattle.distr.specs.CenteredBinomial.{binomial_value}
+use Rattle.output_u64.specs.Out.{held_one}
+use Rattle.numbers.proofs.WideStores.{Stored, stored_none, stored_more, stored-all}
 use Rattle.centered_binomial.proofs.Counting.{counted}
 use Rattle.centered_binomial_u64.proofs.store.fill.Statement.{statement}
 use Rattle.centered_binomial_u64.proofs.store.fill.Tie as tie
 
 abbrev invariant-loop : tie.invariant-loop
-invariant-loop output₀ encoding parameters words place n upper i₀ output i = Stored (λ w. heldOne encoding (binomialValue parameters.eta w)) words place output₀ i output
+invariant-loop output₀ encoding parameters words place n upper i₀ output i = Stored (λ w. held_one encoding (binomial_value parameters.eta w)) words place output₀ i output
 
 abbrev decreases-loop : tie.decreases-loop
 decreases-loop output₀ encoding parameters words place n upper i₀ output i = n - i
@@ -25,7 +25,7 @@ loop-again c =
     counted start.args.parameters start.requires.made c.before.before.wide_word.result turn.before.upper-mask.ensures
     c.before.ones-of.ensures.0 c.before.ones-of.ensures.1 in
     stored_more _ _ _ _ turn.loop.invariant (omega arith) refl c.before.before.wide_word.ensures
-    (c.difference.ensures ∙ ap (heldOne start.args.encoding) value)
+    (c.difference.ensures ∙ ap (held_one start.args.encoding) value)
 
 returns : tie.Need-returns invariant-loop decreases-loop
 returns c =
@@ -35,6 +35,6 @@ returns c =
 pub fill_spec : {M : Type 1} → statement M
 fill_spec =
     tie.close
-    (tie.spec invariant-loop decreases-loop (λ c κs. search rules) (λ c. stored-none _ _ _ _) (λ c. omega arith) (λ c. omega arith) (λ c. omega arith)
+    (tie.spec invariant-loop decreases-loop (λ c κs. search rules) (λ c. stored_none _ _ _ _) (λ c. omega arith) (λ c. omega arith) (λ c. omega arith)
     (λ c. omega arith) (λ c. omega arith) (λ c. omega arith) (λ c. omega arith) (λ c κs. tt) (λ c κs. tt) (λ c κs. tt) (λ c. omega arith)
     (λ c. omega arith) (λ c. omega arith) (λ c. omega arith) loop-again (λ c. c.before.loop.invariant.same_length) returns)

@@ -9,5 +9,5 @@ returns c =
     let field = c.before.before.write-field.ensures in
     (rw (field.0, ← called.desk-draw.ensures), field.1)
 
-pub draw-spec : {M : Type 1} → statement M
-draw-spec = tie.close (tie.spec (λ c κs. search rules) (λ c κs. search rules) (λ c. search rules) (λ c. search rules) returns)
+pub draw_spec : {M : Type 1} → statement M
+draw_spec = tie.close (tie.spec (λ c κs. search rules) (λ c κs. search rules) (λ c. search rules) (λ c. search rules) returns)

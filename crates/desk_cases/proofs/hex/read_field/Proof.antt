@@ -1,7 +1,7 @@
 -- `hex::read_field` judges a field by its length and its digits, and reads the bytes into the front of the room.
 use Rattle.std.proofs.Common.{length, sym, ◌∙◌, length-take-le, rules}
 use borrow.Author.Tests.{not-true, not-false}
-use Rattle.desk_cases.proofs.Fields.{read_one, read-unfit, pairs, read-other, read_all}
+use Rattle.desk_cases.proofs.Fields.{read_one, read_unfit, pairs, read_other, read_all}
 use Rattle.desk_cases.proofs.hex.read_field.Statement.{statement}
 use Rattle.desk_cases.proofs.hex.read_field.Tie as tie
 
@@ -13,13 +13,13 @@ returns c =
 returns-2 : tie.Need-returns-2
 returns-2 c =
     let a = c.before.before.before.before.args in
-    read-unfit a.text.now a.room.now c.before.if1.false c.if2.true
+    read_unfit a.text.now a.room.now c.before.if1.false c.if2.true
 
 returns-3 : tie.Need-returns-3
 returns-3 c =
     let test = c.before.before in
     let a = test.before.before.before.before.args in
-    read-other a.text.now a.room.now test.before.if1.false test.if2.false
+    read_other a.text.now a.room.now test.before.if1.false test.if2.false
     (sym c.before.all_digits.ensures ∙ not-true _ c.if3.true)
 
 slice-relend-prefix-read-digits : tie.Need-slice-relend-prefix-read-digits
@@ -45,8 +45,8 @@ returns-4 c =
     read_all a.text.now a.room.now test.before.if1.false test.if2.false _ _
     (sym digits.before.all_digits.ensures ∙ not-false _ digits.if3.false) c.before.before.read-digits.ensures
 
-pub read-field-spec : {M : Type 1} → statement M
-read-field-spec =
+pub read_field_spec : {M : Type 1} → statement M
+read_field_spec =
     tie.close
     (tie.spec (λ c. search rules) returns returns-2 (λ c κs. search rules) returns-3 slice-relend-prefix-read-digits slice-aggregate-read-digits
     read-digits-requires (λ c. search rules) returns-4)

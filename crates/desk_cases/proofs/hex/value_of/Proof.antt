@@ -15,5 +15,5 @@ returns-3 c =
     let low : c.before.before.args.byte - 48 ≡ 0 = omega arith in
     (rw (lt-leb 97 _ c.before.if1.false, low), omega arith)
 
-pub value-of-spec : {M : Type 1} → statement M
-value-of-spec = tie.close (tie.spec (λ c. search rules) returns returns-2 returns-3)
+pub value_of_spec : {M : Type 1} → statement M
+value_of_spec = tie.close (tie.spec (λ c. search rules) returns returns-2 returns-3)

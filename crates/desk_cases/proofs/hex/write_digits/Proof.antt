@@ -2,7 +2,7 @@
 use Rattle.std.proofs.Common.{◌≡◌, ◌-◌, ◌*◌, ◌≤◌, length, sym, le_antisymm, arith, length-set}
 use Rattle.distr.proofs.Writing.{written, written_none, written-length, written_all}
 use Rattle.desk_cases.specs.Hexadecimal.{hex}
-use Rattle.desk_cases.proofs.Hexadecimal.{hex-length, pair-more}
+use Rattle.desk_cases.proofs.Hexadecimal.{hex-length, pair_more}
 use Rattle.desk_cases.proofs.hex.write_digits.Statement.{statement}
 use Rattle.desk_cases.proofs.hex.write_digits.Tie as tie
 
@@ -41,7 +41,7 @@ loop-again c =
     let a = start.args in (
       omega arith,
       rw (loop.loop.invariant.1, c.before.digit-of.ensures, c.digit-of2.ensures)
-          (pair-more a.values.now a.text.now loop.loop.i start.requires (omega arith)),
+          (pair_more a.values.now a.text.now loop.loop.i start.requires (omega arith)),
     )
 
 same_length : tie.Need-same-length invariant-loop decreases-loop
@@ -55,8 +55,8 @@ returns c =
     rw (c.before.loop.invariant.1, le_antisymm c.before.loop.invariant.0 c.loop-test.false, ← start.requires)
     (written_all (hex a.values.now) a.text.now (omega arith))
 
-pub write-digits-spec : {M : Type 1} → statement M
-write-digits-spec =
+pub write_digits_spec : {M : Type 1} → statement M
+write_digits_spec =
     tie.close
     (tie.spec invariant-loop decreases-loop loop-holds (λ c. omega arith) digit-of-requires (λ c. omega arith) slice-write-text (λ c κs. omega arith)
     (λ c. omega arith) (λ c. omega arith) slice-write-text-2 (λ c. omega arith) (λ c. omega arith) loop-again same_length returns)

@@ -18,8 +18,8 @@ write-digits-requires c κs = length-take-le _ _ (omega arith)
 returns-2 : tie.Need-returns-2
 returns-2 c = some_bytes _ _ _ c.before.before.before.before.if1.false c.before.before.write-digits.ensures
 
-pub write-field-spec : {M : Type 1} → statement M
-write-field-spec =
+pub write_field_spec : {M : Type 1} → statement M
+write_field_spec =
     tie.close
     (tie.spec (λ c. search rules) (λ c. search rules) returns (λ c. search rules) (λ c. search rules) slice-aggregate-write-digits
     write-digits-requires (λ c. search rules) returns-2)

@@ -1,8 +1,8 @@
 -- `ErrorSampler::sample_crt_to` draws rows of residues by the method of the sampler.
 use Rattle.signed_discrete_gaussian.specs.Lent.{lent}
-use Rattle.prepared_draws.proofs.Calls.{sampler-crt}
+use Rattle.prepared_draws.proofs.Calls.{sampler_crt}
 use Rattle.error_sampler.proofs.Made.{makes, prepares}
-use Rattle.error_sampler.proofs.SamplerFloats.{sampler-fits}
+use Rattle.error_sampler.proofs.SamplerFloats.{sampler_fits}
 use borrow.Author.Rules.{rules}
 use Rattle.error_sampler.proofs.ErrorSampler.sample_crt_to.Statement.{statement}
 use Rattle.error_sampler.proofs.ErrorSampler.sample_crt_to.Tie as tie
@@ -13,8 +13,8 @@ returns c =
     let tried = drawn.before in
     let start = tried.before.before.before.before.before.before.before.before.before in
     let a = start.args in
-    sampler-crt makes prepares a.self (sampler-fits a.self _ start.well-formed.0) (lent a.bounds.now a.endpoints.now a.heights.now a.curve.now)
+    sampler_crt makes prepares a.self (sampler_fits a.self _ start.well_formed.0) (lent a.bounds.now a.endpoints.now a.heights.now a.curve.now)
     a.words.now a.place tried.prepared.ensures a.coefficient-count a.moduli.now a.output.now drawn.sample-crt-to.ensures
 
-pub sample-crt-to-spec : {M : Type 1} → statement M
-sample-crt-to-spec = tie.close (tie.spec (λ c κs. search rules) (λ c κs. search rules) (λ c. search rules) returns)
+pub sample_crt_to_spec : {M : Type 1} → statement M
+sample_crt_to_spec = tie.close (tie.spec (λ c κs. search rules) (λ c κs. search rules) (λ c. search rules) returns)

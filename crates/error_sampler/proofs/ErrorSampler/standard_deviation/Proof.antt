@@ -6,6 +6,6 @@ use Rattle.error_sampler.proofs.ErrorSampler.standard_deviation.Tie as tie
 returns-2 : tie.Need-returns-2
 returns-2 c = rw c.before.before.distribution2.given.1 c.standard-deviation.ensures.0
 
-pub standard-deviation-spec : {M : Type 1} → statement M
-standard-deviation-spec =
+pub standard_deviation_spec : {M : Type 1} → statement M
+standard_deviation_spec =
     tie.close (tie.spec (λ c. search rules) (λ c. search rules) (λ c κs. search rules) (λ c. search rules) returns-2)

@@ -1,6 +1,6 @@
 -- `ErrorSampler::try_new` makes the sampler of the definition.
 use mathlib.Core.Path.{ap}
-use Rattle.draw_laws.proofs.Making.{makes-sampler, makes_none}
+use Rattle.draw_laws.proofs.Making.{makes_sampler, makes_none}
 use Rattle.methods.specs.declared.PreparedMethod.{PreparedMethod}
 use Rattle.methods.specs.declared.SamplingMethod.TheVariants.{Empty}
 use Rattle.error_sampler.proofs.Made.{makes}
@@ -11,10 +11,10 @@ use Rattle.error_sampler.proofs.ErrorSampler.try_new.Tie as tie
 returns : tie.Need-returns
 returns c =
     let prepares = c.before.prepare.ensures in
-    makes-sampler makes _ _ (ap (λ (p : PreparedMethod). p.number) prepares) Empty _ (ap (λ (p : PreparedMethod). p.method) prepares) c.if1.true
+    makes_sampler makes _ _ (ap (λ (p : PreparedMethod). p.number) prepares) Empty _ (ap (λ (p : PreparedMethod). p.method) prepares) c.if1.true
 
 returns-2 : tie.Need-returns-2
 returns-2 c = makes_none makes _ _ (ap (λ (p : PreparedMethod). p.number) c.before.prepare.ensures) c.if1.false
 
-pub try-new-spec : {M : Type 1} → statement M
-try-new-spec = tie.close (tie.spec (λ c κs. search rules) returns returns-2)
+pub try_new_spec : {M : Type 1} → statement M
+try_new_spec = tie.close (tie.spec (λ c κs. search rules) returns returns-2)

@@ -1,7 +1,7 @@
 -- `choices::lowest_sign_and_place` takes the lowest sign at hand and chooses a place.
 use mathlib.Core.Path.{sym, ◌∙◌}
 use borrow.Author.Rules.{rules}
-use Rattle.fixed_weights.proofs.Signs.{lowest-got, lowest-short}
+use Rattle.fixed_weights.proofs.Signs.{lowest_got, lowest_short}
 use Rattle.fixed_weights.proofs.choices.lowest_sign_and_place.Statement.{statement}
 use Rattle.fixed_weights.proofs.choices.lowest_sign_and_place.Tie as tie
 
@@ -21,13 +21,13 @@ returns : tie.Need-returns
 returns c =
     let drawn = c.before.before.before in
     let a = drawn.before.before.args in
-    lowest-got a.words.now a.place a.word a.left a.k (sym c.before.value.given.1 ∙ drawn.uniform-below.ensures)
+    lowest_got a.words.now a.place a.word a.left a.k (sym c.before.value.given.1 ∙ drawn.uniform-below.ensures)
 
 returns-2 : tie.Need-returns-2
 returns-2 c =
     let drawn = c.before.before in
     let a = drawn.before.before.args in
-    lowest-short a.words.now a.place a.word a.left a.k (sym c.enum_told.given.1 ∙ drawn.uniform-below.ensures)
+    lowest_short a.words.now a.place a.word a.left a.k (sym c.enum_told.given.1 ∙ drawn.uniform-below.ensures)
 
-pub lowest-sign-and-place-spec : {M : Type 1} → statement M
-lowest-sign-and-place-spec = tie.close (tie.spec sub-fewer uniform-below-requires enum-known-value enum_told returns returns-2)
+pub lowest_sign_and_place_spec : {M : Type 1} → statement M
+lowest_sign_and_place_spec = tie.close (tie.spec sub-fewer uniform-below-requires enum-known-value enum_told returns returns-2)

@@ -3,7 +3,7 @@ use mathlib.Core.Path.{sym, ◌∙◌}
 use native.Mathlib.Nat.{pos_of_ne-zero}
 use native.Mathlib.Omega.{arith}
 use borrow.Author.Rules.{rules}
-use Rattle.fixed_weights.proofs.Signs.{held, refilled, refilled-short}
+use Rattle.fixed_weights.proofs.Signs.{held, refilled, refilled_short}
 use Rattle.fixed_weights.proofs.choices.sign_and_place.Statement.{statement}
 use Rattle.fixed_weights.proofs.choices.sign_and_place.Tie as tie
 
@@ -22,15 +22,15 @@ returns-2 : tie.Need-returns-2
 returns-2 c =
     let read = c.before.before in
     let a = read.before.before.before.args in
-    refilled-short a.words.now a.place a.word a.k read.before.if1.true (sym c.enum_told.given.1 ∙ read.next-u32.ensures)
+    refilled_short a.words.now a.place a.word a.k read.before.if1.true (sym c.enum_told.given.1 ∙ read.next-u32.ensures)
 
 returns-3 : tie.Need-returns-3
 returns-3 c =
     let a = c.before.before.before.args in
     held a.words.now a.place a.word a.k a.left c.before.if1.false c.lowest-sign-and-place2.ensures
 
-pub sign-and-place-spec : {M : Type 1} → statement M
-sign-and-place-spec =
+pub sign_and_place_spec : {M : Type 1} → statement M
+sign_and_place_spec =
     tie.close
     (tie.spec (λ c κs. search rules) (λ c. search rules) (λ c κs. omega arith) (λ c. search rules) lowest-sign-and-place-requires-2 returns returns-2
     returns-3)

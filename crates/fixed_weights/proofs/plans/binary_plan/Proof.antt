@@ -2,7 +2,7 @@
 use mathlib.Core.Path.{◌≡◌}
 use native.Mathlib.Nat.{add-zero}
 use borrow.Author.Rules.{rules}
-use Rattle.fixed_weights.specs.Plans.{weightNumber}
+use Rattle.fixed_weights.specs.Plans.{weight_number}
 use Rattle.fixed_weights.proofs.Judging.{passed, planning-refused, planning-by}
 use Rattle.fixed_weights.proofs.plans.binary_plan.Statement.{statement}
 use Rattle.fixed_weights.proofs.plans.binary_plan.Tie as tie
@@ -11,7 +11,7 @@ weight-number-requires : tie.Need-weight-number-requires
 weight-number-requires c κs = search rules
 
 -- with no second weight the first is the sum
-numbered : (c : tie.After-weight-number) → let a = c.before.args in c.weight-number.result ≡ weightNumber a.word_count a.place a.n a.hamming-weight
+numbered : (c : tie.After-weight-number) → let a = c.before.args in c.weight-number.result ≡ weight_number a.word_count a.place a.n a.hamming-weight
 numbered c = rw (add-zero c.before.args.hamming-weight) at c.weight-number.ensures
 
 returns : tie.Need-returns
@@ -20,10 +20,10 @@ returns c = planning-refused _ _ (numbered c.before) c.if1.true
 rarer-inserted-requires : tie.Need-rarer-inserted-requires
 rarer-inserted-requires c κs =
     let a = c.before.before.args in
-    (passed {wordCount = a.word_count} {place = a.place} (numbered c.before) c.if1.false).light
+    (passed {word_count = a.word_count} {place = a.place} (numbered c.before) c.if1.false).light
 
 returns-2 : tie.Need-returns-2
 returns-2 c = planning-by c.rarer-inserted.ensures (numbered c.before.before) c.before.if1.false
 
-pub binary-plan-spec : {M : Type 1} → statement M
-binary-plan-spec = tie.close (tie.spec weight-number-requires returns rarer-inserted-requires returns-2)
+pub binary_plan_spec : {M : Type 1} → statement M
+binary_plan_spec = tie.close (tie.spec weight-number-requires returns rarer-inserted-requires returns-2)

@@ -39,5 +39,5 @@ returns-3 c =
     let less : a.minus < a.ones = omega arith in
     rw (rare c.before, lt-leb _ _ less, sub-add-eq a.n a.minus a.ones)
 
-pub commonest-fills-spec : {M : Type 1} → statement M
-commonest-fills-spec = tie.close (tie.spec sub-zeros sub-zeros-2 returns returns-2 returns-3)
+pub commonest_fills_spec : {M : Type 1} → statement M
+commonest_fills_spec = tie.close (tie.spec sub-zeros sub-zeros-2 returns returns-2 returns-3)

@@ -13,10 +13,10 @@ returns c = planning-refused _ _ c.before.weight-number.ensures c.if1.true
 commonest-fills-requires : tie.Need-commonest-fills-requires
 commonest-fills-requires c κs =
     let a = c.before.before.args in
-    (passed {wordCount = a.word_count} {place = a.place} c.before.weight-number.ensures c.if1.false).light
+    (passed {word_count = a.word_count} {place = a.place} c.before.weight-number.ensures c.if1.false).light
 
 returns-2 : tie.Need-returns-2
 returns-2 c = planning-by c.commonest-fills.ensures c.before.before.weight-number.ensures c.before.if1.false
 
-pub composition-plan-spec : {M : Type 1} → statement M
-composition-plan-spec = tie.close (tie.spec weight-number-requires returns commonest-fills-requires returns-2)
+pub composition_plan_spec : {M : Type 1} → statement M
+composition_plan_spec = tie.close (tie.spec weight-number-requires returns commonest-fills-requires returns-2)

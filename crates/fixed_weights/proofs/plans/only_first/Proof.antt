@@ -6,5 +6,5 @@ use Rattle.fixed_weights.proofs.plans.only_first.Tie as tie
 returns : tie.Need-returns
 returns c = refl
 
-pub only-first-spec : {M : Type 1} → statement M
-only-first-spec = tie.close (tie.spec returns)
+pub only_first_spec : {M : Type 1} → statement M
+only_first_spec = tie.close (tie.spec returns)

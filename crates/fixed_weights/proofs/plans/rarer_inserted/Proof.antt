@@ -27,5 +27,5 @@ returns-2 c =
     let more : a.n - a.hamming-weight < a.hamming-weight = omega arith in
     rw (lt-leb _ _ more) c.only-first2.ensures
 
-pub rarer-inserted-spec : {M : Type 1} → statement M
-rarer-inserted-spec = tie.close (tie.spec sub-zeros only-first-requires only-first-requires-2 returns returns-2)
+pub rarer_inserted_spec : {M : Type 1} → statement M
+rarer_inserted_spec = tie.close (tie.spec sub-zeros only-first-requires only-first-requires-2 returns returns-2)

@@ -1,7 +1,7 @@
 -- `plans::weight_number` is the number of a draw whose own number is the weights'.
 use Prim.Native.Nat.{◌+◌}
 use borrow.Author.Rules.{rules}
-use Rattle.distr.specs.Numbers.{badWeight}
+use Rattle.distr.specs.Numbers.{bad_weight}
 use Rattle.numbers.proofs.Refusing.{number_by}
 use Rattle.fixed_weights.proofs.plans.weight_number.Statement.{statement}
 use Rattle.fixed_weights.proofs.plans.weight_number.Tie as tie
@@ -15,7 +15,7 @@ draw-number-requires c κs = search rules
 returns : tie.Need-returns
 returns c =
     let a = c.before.before.args in
-    number_by a.word_count a.place a.n _ (badWeight (a.first + a.second) a.n) c.before.weight-number.ensures c.draw-number.ensures
+    number_by a.word_count a.place a.n _ (bad_weight (a.first + a.second) a.n) c.before.weight-number.ensures c.draw-number.ensures
 
-pub weight-number-spec : {M : Type 1} → statement M
-weight-number-spec = tie.close (tie.spec weight-number-requires draw-number-requires returns)
+pub weight_number_spec : {M : Type 1} → statement M
+weight_number_spec = tie.close (tie.spec weight-number-requires draw-number-requires returns)

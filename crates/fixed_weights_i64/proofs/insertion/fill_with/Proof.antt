@@ -12,6 +12,6 @@ returns c =
     let copied = c.before.before.before in
     c.before.fill.ensures ∙ ap (replicate (length copied.before.args.output.now)) (to_z-of_z w64 _ (record { sfits = copied.value.given }))
 
-pub fill-with-spec : {M : Type 1} → statement M
-fill-with-spec =
+pub fill_with_spec : {M : Type 1} → statement M
+fill_with_spec =
     tie.close (tie.spec (λ c. search rules) (λ c. search rules) (λ c κs. search rules) (λ c. search rules) returns)

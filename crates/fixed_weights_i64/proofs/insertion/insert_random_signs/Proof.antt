@@ -4,9 +4,9 @@ use Prim.Native.Nat.{◌-◌}
 use native.Mathlib.Omega.{arith}
 use borrow.Author.Rules.{rules}
 use lib.IntN.{pos}
-use Rattle.distr.proofs.Skipping.{reports-refused}
-use Rattle.fixed_weights.proofs.SignTurns.{SignTurn, signs-start, sign-index, sign-place, sign-code, signs-next, signs-short, signs-done}
-use Rattle.fixed_weights.proofs.SignTurns.{signs-used, signs-reports}
+use Rattle.distr.proofs.Skipping.{reports_refused}
+use Rattle.fixed_weights.proofs.SignTurns.{SignTurn, signs-start, sign_index, sign_place, sign_code, signs-next, signs-short, signs_done}
+use Rattle.fixed_weights.proofs.SignTurns.{signs_used, signs_reports}
 use Rattle.fixed_weights_i64.proofs.insertion.insert_random_signs.Statement.{statement}
 use Rattle.fixed_weights_i64.proofs.insertion.insert_random_signs.Tie as tie
 
@@ -17,13 +17,13 @@ invariant-loop output₀ values hamming-weight words place n i₀ from at₀ sig
 abbrev decreases-loop : tie.decreases-loop
 decreases-loop output₀ values hamming-weight words place n i₀ from at₀ signs₀ left₀ output i at signs left = n - i
 
-pub insert-random-signs-spec : {M : Type 1} → statement M
-insert-random-signs-spec =
+pub insert_random_signs_spec : {M : Type 1} → statement M
+insert_random_signs_spec =
     tie.close
     (tie.spec invariant-loop decreases-loop (λ c κs. search rules) (λ c. omega arith) (λ c. omega arith) (λ c. search rules) (λ c. search rules) (λ c. search rules)
     (λ c. search signs-start) (λ c. omega arith) (λ c. omega arith) (λ c. omega arith) (λ c κs. search rules) (λ c. search rules)
-    (λ c κs. (search sign-index, search sign-place, search sign-code)) (λ c. omega arith) (λ c. omega arith) (λ c. search signs-next)
+    (λ c κs. (search sign_index, search sign_place, search sign_code)) (λ c. omega arith) (λ c. omega arith) (λ c. search signs-next)
     (λ c. search rules) (λ c κs. search rules) (λ c κs. search rules) (λ c. cc)
-    (λ c. (search signs-short, reports-refused _ (λ z. omega arith) c.refused.ensures)) (λ c. omega arith) (λ c. omega arith) (λ c. omega arith)
-    (λ c. omega (arith, signs-used c.before.loop.invariant c.loop-test.false)) (λ c κs. search rules) (λ c. cc)
-    (λ c. (search signs-done, search signs-reports)))
+    (λ c. (search signs-short, reports_refused _ (λ z. omega arith) c.refused.ensures)) (λ c. omega arith) (λ c. omega arith) (λ c. omega arith)
+    (λ c. omega (arith, signs_used c.before.loop.invariant c.loop-test.false)) (λ c κs. search rules) (λ c. cc)
+    (λ c. (search signs_done, search signs_reports)))

@@ -5,9 +5,9 @@ use native.Mathlib.Omega.{arith}
 use borrow.Author.Rules.{rules}
 use lib.ListN.{get_or}
 use lib.IntN.{pos}
-use Rattle.distr.proofs.Skipping.{reports-refused}
-use Rattle.fixed_weights.proofs.Turns.{Inserted, insert-index, insert-place, plan-code, inserted-next, plan-start, plan-done, inserted-used}
-use Rattle.fixed_weights.proofs.Turns.{plan-reports, plan-short}
+use Rattle.distr.proofs.Skipping.{reports_refused}
+use Rattle.fixed_weights.proofs.Turns.{Inserted, insert_index, insert_place, plan_code, inserted-next, plan_start, plan_done, inserted_used}
+use Rattle.fixed_weights.proofs.Turns.{plan_reports, plan_short}
 use Rattle.fixed_weights_i64.proofs.insertion.insert_random_values.Statement.{statement}
 use Rattle.fixed_weights_i64.proofs.insertion.insert_random_values.Tie as tie
 
@@ -18,13 +18,13 @@ invariant-loop output₀ values words place n filling first second split start i
 abbrev decreases-loop : tie.decreases-loop
 decreases-loop output₀ values words place n filling first second split start i₀ from next₀ output i next = n - i
 
-pub insert-random-values-spec : {M : Type 1} → statement M
-insert-random-values-spec =
+pub insert_random_values_spec : {M : Type 1} → statement M
+insert_random_values_spec =
     tie.close
     (tie.spec invariant-loop decreases-loop (λ c. omega arith) (λ c κs. search rules) (λ c. omega arith) (λ c. omega arith) (λ c. search rules) (λ c. search rules)
-    (λ c. search rules) (λ c. search plan-start) (λ c. omega arith) (λ c. omega arith) (λ c. omega arith) (λ c κs. search rules) (λ c. search rules)
-    (λ c κs. search rules) (λ c κs. (search insert-index, search insert-place, search plan-code)) (λ c. omega arith) (λ c. omega arith)
+    (λ c. search rules) (λ c. search plan_start) (λ c. omega arith) (λ c. omega arith) (λ c. omega arith) (λ c κs. search rules) (λ c. search rules)
+    (λ c κs. search rules) (λ c κs. (search insert_index, search insert_place, search plan_code)) (λ c. omega arith) (λ c. omega arith)
     (λ c. search inserted-next) (λ c. search rules) (λ c κs. search rules) (λ c κs. search rules) (λ c. cc)
-    (λ c. (search plan-short, reports-refused _ (λ z. omega arith) c.refused.ensures)) (λ c. omega arith) (λ c. omega arith)
-    (λ c. omega (arith, inserted-used c.before.loop.invariant c.loop-test.false)) (λ c κs. search rules) (λ c. cc)
-    (λ c. (search plan-done, search plan-reports)))
+    (λ c. (search plan_short, reports_refused _ (λ z. omega arith) c.refused.ensures)) (λ c. omega arith) (λ c. omega arith)
+    (λ c. omega (arith, inserted_used c.before.loop.invariant c.loop-test.false)) (λ c κs. search rules) (λ c. cc)
+    (λ c. (search plan_done, search plan_reports)))

@@ -1,15 +1,15 @@
 -- `fixed_composition::sample_fixed_composition_ternary_values_to` refuses by its numbers, or draws by its plan.
 use borrow.Author.Rules.{rules}
-use Rattle.fixed_weights.proofs.PlanRules.{composition-planned, composition-ready}
-use Rattle.fixed_weights.proofs.Judging.{plan-ready, plan-limited, plan-there, plan-refused, plan-reports-zeros}
-use Rattle.fixed_weights.proofs.Planning.{plan-draws, plan-skips, holds-residue}
+use Rattle.fixed_weights.proofs.PlanRules.{composition_planned, composition_ready}
+use Rattle.fixed_weights.proofs.Judging.{plan_ready, plan_limited, plan_there, plan_refused, plan_reports_zeros}
+use Rattle.fixed_weights.proofs.Planning.{plan_draws, plan_skips, holds_residue}
 use Rattle.fixed_weights_u64.proofs.fixed_composition.sample_fixed_composition_ternary_values_to.Statement.{statement}
 use Rattle.fixed_weights_u64.proofs.fixed_composition.sample_fixed_composition_ternary_values_to.Tie as tie
 
-pub sample-fixed-composition-ternary-values-to-spec : {M : Type 1} → statement M
-sample-fixed-composition-ternary-values-to-spec =
+pub sample_fixed_composition_ternary_values_to_spec : {M : Type 1} → statement M
+sample_fixed_composition_ternary_values_to_spec =
     tie.close
-    (tie.spec (λ c κs. search rules) (λ c. search rules) (λ c κs. search rules) (λ c κs. (search (plan-ready, composition-ready), search plan-limited, search plan-there))
+    (tie.spec (λ c κs. search rules) (λ c. search rules) (λ c κs. search rules) (λ c κs. (search (plan_ready, composition_ready), search plan_limited, search plan_there))
     (λ c. search rules) (λ c κs. search rules) (λ c. search rules)
-    (λ c. (search (plan-draws, composition-planned, holds-residue), search (plan-skips, composition-planned)))
-    (λ c. (search plan-refused, search plan-reports-zeros)))
+    (λ c. (search (plan_draws, composition_planned, holds_residue), search (plan_skips, composition_planned)))
+    (λ c. (search plan_refused, search plan_reports_zeros)))

@@ -28,5 +28,5 @@ cast-result-2 c =
 returns-2 : tie.Need-returns-2
 returns-2 c = search rules
 
-pub magnitude-spec : {M : Type 1} → statement M
-magnitude-spec = tie.close (tie.spec cast-result add-result returns cast-result-2 returns-2)
+pub magnitude_spec : {M : Type 1} → statement M
+magnitude_spec = tie.close (tie.spec cast-result add-result returns cast-result-2 returns-2)

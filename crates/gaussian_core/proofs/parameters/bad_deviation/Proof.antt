@@ -8,6 +8,6 @@ returns : tie.Need-returns
 unfolding of_bits round
 returns c = rw (c.before.before.is_finite.ensures, c.before.is-finite2.ensures, c.is-finite3.ensures)
 
-pub bad-deviation-spec : {M : Type 1} → statement M
-bad-deviation-spec =
+pub bad_deviation_spec : {M : Type 1} → statement M
+bad_deviation_spec =
     tie.close (tie.spec (λ c κs. search rules) (λ c κs. search rules) (λ c κs. search rules) returns)

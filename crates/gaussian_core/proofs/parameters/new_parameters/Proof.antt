@@ -4,21 +4,21 @@ use lib.Ieee.{of_bits, round, lt}
 use lib.Ieee.Positive.{num, den, own_value}
 use borrow.Author.Tests.{not-true}
 use Rattle.distr.specs.Gaussian.{support}
-use Rattle.distr.specs.Constants.{supportLimit}
-use Rattle.distr.specs.Making.{badDeviation}
-use Rattle.probability.proofs.Truncating.{minusOne, power, truncated, above_minus_one}
-use Rattle.gaussian_core.specs.Made.{madeParameters}
-use Rattle.gaussian_core.proofs.Support.{product, product-positive, not-below-power, is-so}
-use Rattle.gaussian_core.proofs.Made.{made-large, made-small}
+use Rattle.distr.specs.Constants.{support_limit}
+use Rattle.distr.specs.Making.{bad_deviation}
+use Rattle.probability.proofs.Truncating.{minus_one, power, truncated, above_minus_one}
+use Rattle.gaussian_core.specs.Made.{made_parameters}
+use Rattle.gaussian_core.proofs.Support.{product, product-positive, not-below-power, is_so}
+use Rattle.gaussian_core.proofs.Made.{made_large, made-small}
 use Rattle.gaussian_core.proofs.parameters.new_parameters.Statement.{statement}
 use Rattle.gaussian_core.proofs.parameters.new_parameters.Tie as tie
 
 returns : tie.Need-returns
-unfolding madeParameters
+unfolding made_parameters
 returns c = rw (c.refuse.ensures, ← c.before.before.bad-deviation.ensures, c.before.if1.true)
 
 -- After the first test the deviation is an accepted one.
-accepted : (c : tie.Else1) → badDeviation c.before.before.args.standard-deviation ≡ false
+accepted : (c : tie.Else1) → bad_deviation c.before.before.args.standard-deviation ≡ false
 accepted c = sym c.before.bad-deviation.ensures ∙ c.if1.false
 
 returns-2 : tie.Need-returns-2
@@ -27,17 +27,17 @@ returns-2 c =
     let d = c.before.before.before.before.args.standard-deviation in
     let good = accepted c.before.before in
     let large = not-below-power 64 (product d) (product-positive d good) (not-true _ c.before.if2.true) in
-    c.refuse2.ensures ∙ made-large d good (omega (arith, large))
+    c.refuse2.ensures ∙ made_large d good (omega (arith, large))
 
 -- The product lies where it can be cut to a u64.
-above : (c : tie.Else2) → T (lt minusOne (product c.before.before.before.args.standard-deviation))
+above : (c : tie.Else2) → T (lt minus_one (product c.before.before.before.args.standard-deviation))
 above c =
     let d = c.before.before.before.args.standard-deviation in
     above_minus_one (product d) false (num (product d)) (den (product d)) (own_value (product d) (product-positive d (accepted c.before))) absurd
 
 below : (c : tie.Else2) → T (lt (product c.before.before.before.args.standard-deviation) (power 64))
 unfolding of_bits round
-below c = is-so (lt (product c.before.before.before.args.standard-deviation) (power 64)) c.if2.false
+below c = is_so (lt (product c.before.before.before.args.standard-deviation) (power 64)) c.if2.false
 
 truncating-f64-to-u64-requires : tie.Need-truncating-f64-to-u64-requires
 unfolding of_bits round
@@ -54,15 +54,15 @@ returns-3 : tie.Need-returns-3
 returns-3 c =
     let at = c.before.before in
     c.refuse3.ensures
-    ∙ made-large _ (accepted at.before.before.before) (subst (λ z. supportLimit < z) (supported at) c.before.if3.true)
+    ∙ made_large _ (accepted at.before.before.before) (subst (λ z. support_limit < z) (supported at) c.before.if3.true)
 
 returns-4 : tie.Need-returns-4
 returns-4 c =
     let at = c.before in
     rw (supported at) (made-small _ (accepted at.before.before.before) (rw (supported at) at c.if3.false))
 
-pub new-parameters-spec : {M : Type 1} → statement M
-new-parameters-spec =
+pub new_parameters_spec : {M : Type 1} → statement M
+new_parameters_spec =
     tie.close
     (tie.spec (λ c κs. search rules) (λ c κs. search rules) returns (λ c κs. search rules) returns-2 truncating-f64-to-u64-requires
     (λ c κs. search rules) (λ c κs. search rules) returns-3 returns-4)

@@ -1,11 +1,11 @@
 -- `rising_ok` judges a table as its definition does. The loop's invariant: what is judged so far is the ends and the first i numbers.
 use Rattle.std.proofs.Common.{◌≡◌, ◌-◌, ◌≤◌, length, sym, ◌∙◌, arith}
-use Rattle.gaussian_core.proofs.Tables.{judgedTo, rising-other, rising_none, judged-first, judged-more, judged-all}
+use Rattle.gaussian_core.proofs.Tables.{judged_to, rising-other, rising_none, judged-first, judged_more, judged-all}
 use Rattle.gaussian_core.proofs.rising.rising_ok.Statement.{statement}
 use Rattle.gaussian_core.proofs.rising.rising_ok.Tie as tie
 
 abbrev invariant-loop : tie.invariant-loop
-invariant-loop count last bounds n ok₀ i₀ ok i = (1 ≤ i) × (i ≤ n) × (ok ≡ judgedTo last bounds i)
+invariant-loop count last bounds n ok₀ i₀ ok i = (1 ≤ i) × (i ≤ n) × (ok ≡ judged_to last bounds i)
 
 abbrev decreases-loop : tie.decreases-loop
 decreases-loop count last bounds n ok₀ i₀ ok i = n - i
@@ -28,7 +28,7 @@ loop-again c =
     let turn = at-loop.loop in (
       omega arith,
       omega arith,
-      rw turn.invariant.2 (judged-more a.last a.bounds.now turn.i turn.invariant.0 (omega arith)),
+      rw turn.invariant.2 (judged_more a.last a.bounds.now turn.i turn.invariant.0 (omega arith)),
     )
 
 returns-3 : tie.Need-returns-3 invariant-loop decreases-loop
@@ -39,8 +39,8 @@ returns-3 c =
     let same : length a.bounds.now ≡ a.count = judged.if1.false in
     turn.invariant.2 ∙ judged-all a.count a.last a.bounds.now turn.i same (omega arith) (omega arith)
 
-pub rising-ok-spec : {M : Type 1} → statement M
-rising-ok-spec =
+pub rising_ok_spec : {M : Type 1} → statement M
+rising_ok_spec =
     tie.close
     (tie.spec invariant-loop decreases-loop returns returns-2 (λ c. omega arith) (λ c. omega arith) (λ c. omega arith) (λ c. omega arith) loop-holds
     (λ c. omega arith) (λ c. omega arith) (λ c. omega arith) (λ c. omega arith) (λ c. omega arith) (λ c. omega arith) (λ c. omega arith) loop-again

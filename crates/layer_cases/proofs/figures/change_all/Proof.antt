@@ -9,8 +9,8 @@ invariant-loop numbers figures₀ i₀ figures i = Unit {0}
 abbrev decreases-loop : tie.decreases-loop
 decreases-loop numbers figures₀ i₀ figures i = 63 - i
 
-pub change-all-spec : {M : Type 1} → statement M
-change-all-spec =
+pub change_all_spec : {M : Type 1} → statement M
+change_all_spec =
     tie.close
     (tie.spec invariant-loop decreases-loop (λ c. search rules) (λ c. search rules) (λ c. search rules) (λ c. search rules) (λ c. search rules)
     (λ c. search rules) (λ c. search rules) (λ c. search rules) (λ c. search rules) (λ c. search rules) (λ c. search rules) (λ c. search rules))

@@ -9,8 +9,8 @@ invariant-loop figures reals₀ i₀ reals i = Unit {0}
 abbrev decreases-loop : tie.decreases-loop
 decreases-loop figures reals₀ i₀ reals i = 8192 - i
 
-pub fill-reals-spec : {M : Type 1} → statement M
-fill-reals-spec =
+pub fill_reals_spec : {M : Type 1} → statement M
+fill_reals_spec =
     tie.close
     (tie.spec invariant-loop decreases-loop (λ c. search rules) (λ c. search rules) (λ c. search rules) (λ c κs. search rules) (λ c. search rules)
     (λ c. search rules) (λ c. search rules) (λ c. search rules) (λ c. search rules) (λ c. search rules))

@@ -9,8 +9,8 @@ invariant-loop drawn output same₀ zeros₀ i₀ same zeros i = Unit {0}
 abbrev decreases-loop : tie.decreases-loop
 decreases-loop drawn output same₀ zeros₀ i₀ same zeros i = length output - i
 
-pub coefficients-spec : {M : Type 1} → statement M
-coefficients-spec =
+pub coefficients_spec : {M : Type 1} → statement M
+coefficients_spec =
     tie.close
     (tie.spec invariant-loop decreases-loop (λ c. search rules) (λ c. search rules) (λ c. search rules) (λ c. search rules) (λ c. search rules)
     (λ c. search rules) (λ c κs. search rules) (λ c. search rules))

@@ -4,5 +4,5 @@ use lib.ListN.{length-replicate}
 use Rattle.layer_cases.proofs.room.coefficients_room.Statement.{statement}
 use Rattle.layer_cases.proofs.room.coefficients_room.Tie as tie
 
-pub coefficients-room-spec : {M : Type 1} → statement M
-coefficients-room-spec = tie.close (tie.spec (λ c. sym (length-replicate {0} {A = ℤ} 70000 (pos 9))))
+pub coefficients_room_spec : {M : Type 1} → statement M
+coefficients_room_spec = tie.close (tie.spec (λ c. sym (length-replicate {0} {A = ℤ} 70000 (pos 9))))

@@ -4,5 +4,5 @@ use lib.ListN.{length-replicate}
 use Rattle.layer_cases.proofs.room.residues_room.Statement.{statement}
 use Rattle.layer_cases.proofs.room.residues_room.Tie as tie
 
-pub residues-room-spec : {M : Type 1} → statement M
-residues-room-spec = tie.close (tie.spec (λ c. sym (length-replicate {0} {A = ℕ} 70000 9)))
+pub residues_room_spec : {M : Type 1} → statement M
+residues_room_spec = tie.close (tie.spec (λ c. sym (length-replicate {0} {A = ℕ} 70000 9)))

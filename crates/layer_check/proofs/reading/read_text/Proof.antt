@@ -9,8 +9,8 @@ invariant-loop text counts₀ support₀ endpoints₀ heights₀ curve₀ positi
 abbrev decreases-loop : tie.decreases-loop
 decreases-loop text counts₀ support₀ endpoints₀ heights₀ curve₀ position₀ at₀ line₀ counts support endpoints heights curve position at line = 6 - line
 
-pub read-text-spec : {M : Type 1} → statement M
-read-text-spec =
+pub read_text_spec : {M : Type 1} → statement M
+read_text_spec =
     tie.close
     (tie.spec invariant-loop decreases-loop (λ c. search rules) (λ c κs. search rules) (λ c. search rules) (λ c. search rules) (λ c. search rules)
     (λ c κs. search rules) (λ c κs. search rules) (λ c. search rules) (λ c. search rules) (λ c. search rules) (λ c. search rules)

@@ -9,8 +9,8 @@ invariant-loop line room₀ read₀ i₀ room read i = length room ≡ length ro
 abbrev decreases-loop : tie.decreases-loop
 decreases-loop line room₀ read₀ i₀ room read i = length line - i
 
-pub read-reals-spec : {M : Type 1} → statement M
-read-reals-spec =
+pub read_reals_spec : {M : Type 1} → statement M
+read_reals_spec =
     tie.close
     (tie.spec invariant-loop decreases-loop (λ c. search rules) (λ c. search rules) (λ c. search rules) (λ c. search rules) (λ c κs. search rules)
     (λ c. search rules) (λ c. search rules) (λ c. search rules) (λ c κs. search rules) (λ c. search rules) (λ c. search rules))

@@ -4,5 +4,5 @@ use lib.ListN.{length-replicate}
 use Rattle.layer_check.proofs.room.text_room.Statement.{statement}
 use Rattle.layer_check.proofs.room.text_room.Tie as tie
 
-pub text-room-spec : {M : Type 1} → statement M
-text-room-spec = tie.close (tie.spec (λ c. sym (length-replicate {0} {A = ℕ} 1048577 0)))
+pub text_room_spec : {M : Type 1} → statement M
+text_room_spec = tie.close (tie.spec (λ c. sym (length-replicate {0} {A = ℕ} 1048577 0)))

@@ -4,13 +4,13 @@ use Prim.Native.Nat.{◌-◌}
 use native.Mathlib.Omega.{arith}
 use lib.Ieee.{nan, round, of_bits}
 use Rattle.distr.specs.Constants.{literal}
-use Rattle.distr.specs.FirstWrong.{heightsAsked, right}
-use Rattle.layer_tables.proofs.Searching.{Searched, searched-none, searched-more, searched-found, searched-all, entry}
+use Rattle.distr.specs.FirstWrong.{heights_asked, right}
+use Rattle.layer_tables.proofs.Searching.{Searched, searched_none, searched_more, searched_found, searched_all, entry}
 use Rattle.layer_tables.proofs.first_wrong.first_wrong_height.Statement.{statement}
 use Rattle.layer_tables.proofs.first_wrong.first_wrong_height.Tie as tie
 
 abbrev invariant-loop : tie.invariant-loop
-invariant-loop heights n before₀ i₀ before i = (before ≡ i - 1) × Searched (right heightsAsked (literal 0 1) heights) n i
+invariant-loop heights n before₀ i₀ before i = (before ≡ i - 1) × Searched (right heights_asked (literal 0 1) heights) n i
 
 abbrev decreases-loop : tie.decreases-loop
 decreases-loop heights n before₀ i₀ before i = n - i
@@ -21,8 +21,8 @@ returns c =
     let at-loop = c.before.before.before.before.before in
     let hs = at-loop.before.before.args.heights.now in
     let l = at-loop.loop in
-    searched-found _ _ l.i _ (rw c.before.is_finite.ensures at c.if1.true)
-    (entry heightsAsked (literal 0 1) nan hs l.before l.i l.invariant.0 (omega arith)) (omega arith) l.invariant.1
+    searched_found _ _ l.i _ (rw c.before.is_finite.ensures at c.if1.true)
+    (entry heights_asked (literal 0 1) nan hs l.before l.i l.invariant.0 (omega arith)) (omega arith) l.invariant.1
 
 loop-again : tie.Need-loop-preserved invariant-loop decreases-loop
 unfolding round of_bits
@@ -31,15 +31,15 @@ loop-again c =
     let hs = at-loop.before.before.args.heights.now in
     let l = at-loop.loop in (
       omega arith,
-      searched-more _ _ l.i _ (rw c.before.is_finite.ensures at c.if1.false)
-          (entry heightsAsked (literal 0 1) nan hs l.before l.i l.invariant.0 (omega arith)) (omega arith) l.invariant.1,
+      searched_more _ _ l.i _ (rw c.before.is_finite.ensures at c.if1.false)
+          (entry heights_asked (literal 0 1) nan hs l.before l.i l.invariant.0 (omega arith)) (omega arith) l.invariant.1,
     )
 
 returns-2 : tie.Need-returns-2 invariant-loop decreases-loop
-returns-2 c = let l = c.before.loop in searched-all _ _ l.i c.loop-test.false l.invariant.1
+returns-2 c = let l = c.before.loop in searched_all _ _ l.i c.loop-test.false l.invariant.1
 
-pub first-wrong-height-spec : {M : Type 1} → statement M
-first-wrong-height-spec =
+pub first_wrong_height_spec : {M : Type 1} → statement M
+first_wrong_height_spec =
     tie.close
-    (tie.spec invariant-loop decreases-loop (λ c. (omega arith, searched-none _ _)) (λ c. omega arith) (λ c. omega arith) (λ c. omega arith) (λ c. omega arith)
+    (tie.spec invariant-loop decreases-loop (λ c. (omega arith, searched_none _ _)) (λ c. omega arith) (λ c. omega arith) (λ c. omega arith) (λ c. omega arith)
     (λ c. omega arith) (λ c κs. tt) returns (λ c. omega arith) (λ c. omega arith) loop-again returns-2)

@@ -3,13 +3,13 @@ use Prim.Native.Nat.{◌-◌}
 use native.Mathlib.Omega.{arith}
 use lib.Ieee.{nan, round, of_bits}
 use Rattle.distr.specs.Constants.{literal}
-use Rattle.distr.specs.FirstWrong.{curveAsked, right}
-use Rattle.layer_tables.proofs.Searching.{Searched, searched-none, searched-more, searched-found, searched-all, value-entry}
+use Rattle.distr.specs.FirstWrong.{curve_asked, right}
+use Rattle.layer_tables.proofs.Searching.{Searched, searched_none, searched_more, searched_found, searched_all, value_entry}
 use Rattle.layer_tables.proofs.first_wrong.first_wrong_value.Statement.{statement}
 use Rattle.layer_tables.proofs.first_wrong.first_wrong_value.Tie as tie
 
 abbrev invariant-loop : tie.invariant-loop
-invariant-loop curve n i₀ i = Searched (right curveAsked (literal 0 1) curve) n i
+invariant-loop curve n i₀ i = Searched (right curve_asked (literal 0 1) curve) n i
 
 abbrev decreases-loop : tie.decreases-loop
 decreases-loop curve n i₀ i = n - i
@@ -18,21 +18,21 @@ returns : tie.Need-returns invariant-loop decreases-loop
 unfolding round of_bits
 returns c =
     let l = c.before.before.before.loop in
-    let test = value-entry nan c.before.before.before.before.args.curve.now l.i (omega arith) in
-    searched-found _ _ l.i _ c.if1.true test (omega arith) l.invariant
+    let test = value_entry nan c.before.before.before.before.args.curve.now l.i (omega arith) in
+    searched_found _ _ l.i _ c.if1.true test (omega arith) l.invariant
 
 loop-again : tie.Need-loop-preserved invariant-loop decreases-loop
 unfolding round of_bits
 loop-again c =
     let l = c.before.before.before.loop in
-    let test = value-entry nan c.before.before.before.before.args.curve.now l.i (omega arith) in
-    searched-more _ _ l.i _ c.if1.false test (omega arith) l.invariant
+    let test = value_entry nan c.before.before.before.before.args.curve.now l.i (omega arith) in
+    searched_more _ _ l.i _ c.if1.false test (omega arith) l.invariant
 
 returns-2 : tie.Need-returns-2 invariant-loop decreases-loop
-returns-2 c = let l = c.before.loop in searched-all _ _ l.i c.loop-test.false l.invariant
+returns-2 c = let l = c.before.loop in searched_all _ _ l.i c.loop-test.false l.invariant
 
-pub first-wrong-value-spec : {M : Type 1} → statement M
-first-wrong-value-spec =
+pub first_wrong_value_spec : {M : Type 1} → statement M
+first_wrong_value_spec =
     tie.close
-    (tie.spec invariant-loop decreases-loop (λ c. searched-none _ _) (λ c. omega arith) (λ c. omega arith) returns (λ c. omega arith) (λ c. omega arith) loop-again
+    (tie.spec invariant-loop decreases-loop (λ c. searched_none _ _) (λ c. omega arith) (λ c. omega arith) returns (λ c. omega arith) (λ c. omega arith) loop-again
     returns-2)

@@ -25,5 +25,5 @@ returns-3 c =
     let same : n - 1 + 1 ≡ n = omega arith in
     rw (same, one_more (length a.curve.now) a.maximum-magnitude (omega arith))
 
-pub sizes-ok-spec : {M : Type 1} → statement M
-sizes-ok-spec = tie.close (tie.spec returns returns-2 (λ c. search rules) (λ c. search rules) returns-3)
+pub sizes_ok_spec : {M : Type 1} → statement M
+sizes_ok_spec = tie.close (tie.spec returns returns-2 (λ c. search rules) (λ c. search rules) returns-3)

@@ -12,8 +12,8 @@ invariant-loop values i₀ i = i ≤ length values
 abbrev decreases-loop : tie.decreases-loop
 decreases-loop values i₀ i = length values - i
 
-pub rest-spec : {M : Type 1} → statement M
-rest-spec =
+pub rest_spec : {M : Type 1} → statement M
+rest_spec =
     tie.close
     (tie.spec invariant-loop decreases-loop (λ c. omega arith) (λ c. search rules) (λ c. search rules) (λ c κs. tt) (λ c. omega arith)
     (λ c. omega arith) (λ c. omega arith) (λ c κs. tt) (λ c. tt))

@@ -19,8 +19,8 @@ cast_unsigned c =
     let f = start.ranges.value in
     rw (to_z-of_z f) (above start.args.value (rw (to_z-of_z f) at c.if3.true), Fits-nat_abs tt f)
 
-pub signed-spec : {M : Type 1} → statement M
-signed-spec =
+pub signed_spec : {M : Type 1} → statement M
+signed_spec =
     tie.close
     (tie.spec (λ c. search rules) (λ c κs. search rules) (λ c. search rules) (λ c κs. search rules) cast_unsigned (λ c κs. search rules) (λ c. search rules) (λ c κs. search rules) (λ c. tt) (λ c. tt)
     (λ c. tt) (λ c. tt))

@@ -12,8 +12,8 @@ invariant-loop name values i₀ i = i ≤ length values
 abbrev decreases-loop : tie.decreases-loop
 decreases-loop name values i₀ i = length values - i
 
-pub signed-line-spec : {M : Type 1} → statement M
-signed-line-spec =
+pub signed_line_spec : {M : Type 1} → statement M
+signed_line_spec =
     tie.close
     (tie.spec invariant-loop decreases-loop (λ c κs. tt) (λ c. omega arith) (λ c. search rules) (λ c. search rules) (λ c κs. tt) (λ c. omega arith)
     (λ c. omega arith) (λ c. omega arith) (λ c κs. tt) (λ c. tt))

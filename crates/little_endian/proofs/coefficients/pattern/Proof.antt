@@ -30,5 +30,5 @@ cast-result-2 c =
 returns-2 : tie.Need-returns-2
 returns-2 c = plain c.before.args.c c.before.ranges.c c.if1.false
 
-pub pattern-spec : {M : Type 1} → statement M
-pattern-spec = tie.close (tie.spec cast-result sub-result returns cast-result-2 returns-2)
+pub pattern_spec : {M : Type 1} → statement M
+pattern_spec = tie.close (tie.spec cast-result sub-result returns cast-result-2 returns-2)

@@ -79,8 +79,8 @@ returns-2 c =
     (loop.invariant.1 ∙ ap (λ (k : ℕ). written (bytes_of cs) k a.bytes.now) end
     ∙ written_all (bytes_of cs) a.bytes.now (omega (arith, size, length-bytes cs)))
 
-pub write-coefficients-spec : {M : Type 1} → statement M
-write-coefficients-spec =
+pub write_coefficients_spec : {M : Type 1} → statement M
+write_coefficients_spec =
     tie.close
     (tie.spec invariant-loop decreases-loop returns loop-holds (λ c. omega (arith, room c)) (λ c. omega (arith, room c)) (λ c. omega (arith, room c))
     (λ c. omega arith) (λ c. omega (arith, room c)) (λ c. omega (arith, room c)) (λ c. omega (arith, room c.before))

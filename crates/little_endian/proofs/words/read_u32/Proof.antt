@@ -9,8 +9,8 @@ returns : tie.Need-returns
 unfolding u32_at
 returns c = omega arith
 
-pub read-u32-spec : {M : Type 1} → statement M
-read-u32-spec =
+pub read_u32_spec : {M : Type 1} → statement M
+read_u32_spec =
     tie.close
     (tie.spec (λ c κs. search rules) (λ c. search rules) (λ c κs. search rules) (λ c. search rules) (λ c. search rules) (λ c. search rules)
     (λ c κs. search rules) (λ c. search rules) (λ c. search rules) (λ c. search rules) (λ c κs. search rules) (λ c. search rules) (λ c. search rules)

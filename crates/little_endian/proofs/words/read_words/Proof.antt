@@ -5,15 +5,15 @@ use native.Mathlib.Numerals.{add-one}
 use native.Mathlib.Omega.{arith}
 use borrow.Author.Tests.{eq-eqb}
 use lib.ListN.{length}
-use Rattle.distr.proofs.Writing.{written, written_none, written-length, written-more, written_all}
-use Rattle.little_endian.specs.LittleEndian.{u32_at, wordsAt}
+use Rattle.distr.proofs.Writing.{written, written_none, written-length, written_more, written_all}
+use Rattle.little_endian.specs.LittleEndian.{u32_at, words_at}
 use Rattle.little_endian.proofs.Sizes.{fitting, unfitting}
 use Rattle.little_endian.proofs.Reading.{length-words, word_at}
 use Rattle.little_endian.proofs.words.read_words.Statement.{statement}
 use Rattle.little_endian.proofs.words.read_words.Tie as tie
 
 abbrev invariant-loop : tie.invariant-loop
-invariant-loop words₀ bytes n size i₀ words i = (i ≤ n) × (words ≡ written (wordsAt bytes 0 n) i words₀)
+invariant-loop words₀ bytes n size i₀ words i = (i ≤ n) × (words ≡ written (words_at bytes 0 n) i words₀)
 
 abbrev decreases-loop : tie.decreases-loop
 decreases-loop words₀ bytes n size i₀ words i = n - i
@@ -28,7 +28,7 @@ kept c =
     let a = c.before.before.before.before.args in
     let n = length a.words.now in
     rw c.loop.invariant.1
-    (written-length (wordsAt a.bytes.now 0 n) a.words.now c.loop.i (omega (arith, length-words a.bytes.now 0 n)) c.loop.invariant.0)
+    (written-length (words_at a.bytes.now 0 n) a.words.now c.loop.i (omega (arith, length-words a.bytes.now 0 n)) c.loop.invariant.0)
 
 returns : tie.Need-returns invariant-loop decreases-loop
 returns c =
@@ -38,7 +38,7 @@ returns c =
 loop-holds : tie.Need-loop-init invariant-loop decreases-loop
 loop-holds c =
     let a = c.before.before.before.args in
-    (omega arith, sym (written_none (wordsAt a.bytes.now 0 (length a.words.now)) a.words.now))
+    (omega arith, sym (written_none (words_at a.bytes.now 0 (length a.words.now)) a.words.now))
 
 loop-again : tie.Need-loop-preserved invariant-loop decreases-loop
 loop-again c =
@@ -46,12 +46,12 @@ loop-again c =
     let loop = test.before.loop in
     let a = test.before.before.before.before.before.args in
     let n = length a.words.now in
-    let ws = wordsAt a.bytes.now 0 n in
+    let ws = words_at a.bytes.now 0 n in
     let at : 4 * loop.i ≡ 0 + 4 * loop.i = omega arith in
     let next = c.read_u32.ensures ∙ ap (u32_at a.bytes.now) at ∙ sym (word_at a.bytes.now 0 n loop.i test.loop-test.true) in (
       omega arith,
       rw (loop.invariant.1, next, add-one loop.i)
-          (written-more ws a.words.now loop.i 0 (omega (arith, length-words a.bytes.now 0 n)) test.loop-test.true),
+          (written_more ws a.words.now loop.i 0 (omega (arith, length-words a.bytes.now 0 n)) test.loop-test.true),
     )
 
 returns-2 : tie.Need-returns-2 invariant-loop decreases-loop
@@ -60,15 +60,15 @@ returns-2 c =
     let a = c.before.before.before.before.before.args in
     let size = sized c.before.before in
     let n = length a.words.now in
-    let ws = wordsAt a.bytes.now 0 n in
+    let ws = words_at a.bytes.now 0 n in
     let as_many : n ≡ length a.bytes.now / 4 = omega (arith, size) in
     let end : loop.i ≡ n = omega arith in
     rw (eq-eqb (length a.bytes.now) (4 * n) size)
     (loop.invariant.1 ∙ ap (λ (k : ℕ). written ws k a.words.now) end ∙ written_all ws a.words.now (length-words a.bytes.now 0 n)
-    ∙ ap (wordsAt a.bytes.now 0) as_many)
+    ∙ ap (words_at a.bytes.now 0) as_many)
 
-pub read-words-spec : {M : Type 1} → statement M
-read-words-spec =
+pub read_words_spec : {M : Type 1} → statement M
+read_words_spec =
     tie.close
     (tie.spec invariant-loop decreases-loop returns loop-holds (λ c. omega (arith, sized c.before.before))
     (λ c κs. omega (arith, sized c.before.before)) (λ c. omega (arith, sized c.before.before.before))

@@ -3,5 +3,5 @@ use borrow.Author.Rules.{rules}
 use Rattle.methods.proofs.key.is_served.Statement.{statement}
 use Rattle.methods.proofs.key.is_served.Tie as tie
 
-pub is-served-spec : {M : Type 1} → statement M
-is-served-spec = tie.close (tie.spec (λ c κs. search rules) (λ c. rw c.method-key.ensures))
+pub is_served_spec : {M : Type 1} → statement M
+is_served_spec = tie.close (tie.spec (λ c κs. search rules) (λ c. rw c.method-key.ensures))

@@ -4,9 +4,9 @@ use Prim.Native.Nat.{◌≤◌}
 use native.Mathlib.Omega.{arith}
 use borrow.Author.Rules.{rules}
 use borrow.Author.Tests.{not-true, not-false}
-use Rattle.distr.specs.Constants.{outputLimit}
-use Rattle.numbers.proofs.Refusing.{drawNumber, number_passed}
-use Rattle.numbers.proofs.WideNumbers.{answer-refused, answer-constant, answer-short, answer-read}
+use Rattle.distr.specs.Constants.{output_limit}
+use Rattle.numbers.proofs.Refusing.{draw_number, number_passed}
+use Rattle.numbers.proofs.WideNumbers.{answer-refused, answer-constant, answer-short, answer_read}
 use Rattle.numbers.proofs.wide_words.answer_of.Statement.{statement}
 use Rattle.numbers.proofs.wide_words.answer_of.Tie as tie
 
@@ -14,10 +14,10 @@ returns : tie.Need-returns
 returns c = c.refused.ensures ∙ answer-refused _ _ _ _ _ _ c.before.before.draw-number.ensures c.before.if1.true
 
 -- past the first test no number refuses, and the place and the length are good
-none : (c : tie.Else1) → let a = c.before.before.args in 0 ≡ drawNumber a.count a.place a.n a.own_val
+none : (c : tie.Else1) → let a = c.before.before.args in 0 ≡ draw_number a.count a.place a.n a.own_val
 none c = sym c.if1.false ∙ c.before.draw-number.ensures
 
-good : (c : tie.Else1) → let a = c.before.before.args in (a.place ≤ a.count) × (a.n ≤ outputLimit)
+good : (c : tie.Else1) → let a = c.before.before.args in (a.place ≤ a.count) × (a.n ≤ output_limit)
 good c =
     let a = c.before.before.args in
     let passed = number_passed a.count a.place a.n a.own_val c.before.draw-number.ensures c.if1.false in
@@ -34,10 +34,10 @@ returns-3 c =
 returns-4 : tie.Need-returns-4
 returns-4 c =
     c.succeeded2.ensures
-    ∙ answer-read _ _ _ _ _ (none c.before.before.before) (not-false _ c.before.before.if2.false) c.before.if3.false
+    ∙ answer_read _ _ _ _ _ (none c.before.before.before) (not-false _ c.before.before.if2.false) c.before.if3.false
 
-pub answer-of-spec : {M : Type 1} → statement M
-answer-of-spec =
+pub answer_of_spec : {M : Type 1} → statement M
+answer_of_spec =
     tie.close
     (tie.spec (λ c κs. search rules) (λ c κs. tt) returns (λ c κs. tt) returns-2 (λ c. (good c.before).0) (λ c. omega (arith, good c.before))
     (λ c κs. tt) returns-3 (λ c. search rules) (λ c. omega (arith, good c.before.before)) (λ c κs. tt) returns-4)

@@ -18,8 +18,8 @@ returns-2 : tie.Need-returns-2
 unfolding places_by
 returns-2 c = rw c.enum-told2.given.1
 
-pub places-of-spec : {M : Type 1} → statement M
-places-of-spec =
+pub places_of_spec : {M : Type 1} → statement M
+places_of_spec =
     tie.close
     (tie.spec (λ c. search rules) (λ c. search rules) (λ c. search rules) (λ c. omega (arith, index_below c.before.before.args.byte))
     (λ c. omega (arith, index_below c.before.before.args.byte)) (λ c. index_below c.before.before.args.byte) (λ c κs. search rules)

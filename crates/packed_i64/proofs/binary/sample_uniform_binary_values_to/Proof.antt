@@ -4,9 +4,9 @@ use mathlib.Core.Path.{refl, sym}
 use native.Mathlib.Omega.{arith}
 use borrow.Author.Rules.{rules}
 use lib.IntN.{pos}
-use Rattle.distr.proofs.Writing.{map-id}
-use Rattle.distr.proofs.Skipping.{reports-nothing}
-use Rattle.packed.proofs.Pairing.{made-paired, made-agrees}
+use Rattle.distr.proofs.Writing.{map_id}
+use Rattle.distr.proofs.Skipping.{reports_nothing}
+use Rattle.packed.proofs.Pairing.{made-paired, made_agrees}
 use Rattle.packed.proofs.Deciding.{below_two}
 use Rattle.packed_i64.proofs.binary.sample_uniform_binary_values_to.Statement.{statement}
 use Rattle.packed_i64.proofs.binary.sample_uniform_binary_values_to.Tie as tie
@@ -19,11 +19,11 @@ returns c =
     let called = c.before in
     let made = called.before.before.before.before in (
       rw called.before.before.before.binary-words.ensures at
-          (called.draw.ensures.0.draws (λ cs. cs) (λ x. x) pos (λ cs. sym (map-id cs)) refl
-          (made-agrees (pos 0) (pos 0 ∷ pos 1 ∷ []) (omega arith) made.bits.ensures _ (below_two _ refl refl))),
-      reports-nothing called.draw.result called.draw.ensures.1,
+          (called.draw.ensures.0.draws (λ cs. cs) (λ x. x) pos (λ cs. sym (map_id cs)) refl
+          (made_agrees (pos 0) (pos 0 ∷ pos 1 ∷ []) (omega arith) made.bits.ensures _ (below_two _ refl refl))),
+      reports_nothing called.draw.result called.draw.ensures.1,
     )
 
-pub sample-uniform-binary-values-to-spec : {M : Type 1} → statement M
-sample-uniform-binary-values-to-spec =
+pub sample_uniform_binary_values_to_spec : {M : Type 1} → statement M
+sample_uniform_binary_values_to_spec =
     tie.close (tie.spec (λ c κs. search rules) (λ c κs. search rules) (λ c. search rules) draw-requires (λ c. search rules) returns)

@@ -6,7 +6,7 @@ use borrow.Author.Rules.{rules}
 use lib.ListN.{length}
 use Rattle.distr.specs.Answers.{sums}
 use Rattle.numbers.proofs.Refusing.{number_passed}
-use Rattle.packed.proofs.Deciding.{table-refused, table-lacking, table_filled}
+use Rattle.packed.proofs.Deciding.{table-refused, table_lacking, table_filled}
 use Rattle.packed_i64.proofs.draws.draw.Statement.{statement}
 use Rattle.packed_i64.proofs.draws.draw.Tie as tie
 
@@ -29,7 +29,7 @@ returns-2 : tie.Need-returns-2
 returns-2 c =
     let test = c.before.before.before.before in (
       rw c.refused2.ensures
-          (table-lacking _ _ _ _ _ _ _ _ test.before.before.draw-number.ensures test.before.if1.false test.if2.true
+          (table_lacking _ _ _ _ _ _ _ _ test.before.before.draw-number.ensures test.before.if1.false test.if2.true
           c.before.before.clear.ensures),
       ap sums c.refused2.ensures,
     )
@@ -50,8 +50,8 @@ returns-3 c =
       ap sums c.succeeded.ensures,
     )
 
-pub draw-spec : {M : Type 1} → statement M
-draw-spec =
+pub draw_spec : {M : Type 1} → statement M
+draw_spec =
     tie.close
     (tie.spec (λ c κs. search rules) (λ c κs. search rules) returns sub-if2 (λ c κs. search rules) (λ c κs. search rules) (λ c. search rules)
     returns-2 fill-words-requires (λ c. search rules) (λ c κs. search rules) (λ c. search rules) returns-3)

@@ -23,8 +23,8 @@ returns c = rw c.before.before.before.enum_told.given.1 c.before.fill-digits.ens
 returns-2 : tie.Need-returns-2
 returns-2 c = rw c.before.before.before.enum-told2.given.1 c.before.fill-digits2.ensures
 
-pub fill-words-spec : {M : Type 1} → statement M
-fill-words-spec =
+pub fill_words_spec : {M : Type 1} → statement M
+fill_words_spec =
     tie.close
     (tie.spec (λ c. search rules) fill-digits-requires (λ c. search rules) fill-digits-requires-2 (λ c. search rules) returns (λ c. search rules)
     returns-2)

@@ -8,8 +8,8 @@ use Rattle.packed_i64.proofs.stores.store_pair.Tie as tie
 slice-set-from-second : tie.Need-slice-set-from-second
 slice-set-from-second c = simp length-set (omega arith)
 
-pub store-pair-spec : {M : Type 1} → statement M
-store-pair-spec =
+pub store_pair_spec : {M : Type 1} → statement M
+store_pair_spec =
     tie.close
     (tie.spec (λ c. search rules) (λ c. search rules) (λ c. search rules) (λ c. search rules) (λ c. search rules) (λ c. search rules)
     (λ c. search rules) (λ c. search rules) (λ c. search rules) slice-set-from-second (λ c. search rules) (λ c. search rules))

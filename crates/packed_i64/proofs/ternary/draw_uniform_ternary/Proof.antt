@@ -6,19 +6,19 @@ use native.Mathlib.Omega.{arith}
 use borrow.Author.Rules.{rules}
 use lib.ListN.{length, drop}
 use lib.IntN.{ℤ, pos, negsuc}
-use Rattle.distr.proofs.Writing.{map-id}
-use Rattle.distr.proofs.Skipping.{reports-refused, reports-bytes}
+use Rattle.distr.proofs.Writing.{map_id}
+use Rattle.distr.proofs.Skipping.{reports_refused, reports_bytes}
 use Rattle.numbers.proofs.Refusing.{number_passed, rule-refused}
-use Rattle.packed.proofs.Pairing.{made-paired, made-agrees}
-use Rattle.packed.proofs.Deciding.{trits-none, none-rejected, trits-lacking, trits-filled, below-three}
-use Rattle.packed.proofs.TritLoop.{taken-forward, taken-rejected}
+use Rattle.packed.proofs.Pairing.{made-paired, made_agrees}
+use Rattle.packed.proofs.Deciding.{trits_none, none_rejected, trits_lacking, trits_filled, below-three}
+use Rattle.packed.proofs.TritLoop.{taken_forward, taken-rejected}
 use Rattle.packed_i64.proofs.ternary.draw_uniform_ternary.Statement.{statement}
 use Rattle.packed_i64.proofs.ternary.draw_uniform_ternary.Tie as tie
 
 returns : tie.Need-returns
 returns c = (
   rw c.refused.ensures (rule-refused _ _ _ _ _ c.before.before.draw-number.ensures _ c.before.if1.true),
-  reports-refused _ c.before.if1.true c.refused.ensures,
+  reports_refused _ c.before.if1.true c.refused.ensures,
 )
 
 -- no coefficient is wanted
@@ -28,8 +28,8 @@ returns-2 c =
     let judged = c.before.before in
     let a = judged.before.before.before.args in (
       rw c.succeeded.ensures
-          (trits-none (λ cs. cs) (λ (v : ℤ). v) (λ cs. sym (map-id cs)) a.words.now a.place a.output.now judged.before.draw-number.ensures judged.if1.false none),
-      reports-bytes _ c.succeeded.ensures (none-rejected (drop a.place a.words.now) none),
+          (trits_none (λ cs. cs) (λ (v : ℤ). v) (λ cs. sym (map_id cs)) a.words.now a.place a.output.now judged.before.draw-number.ensures judged.if1.false none),
+      reports_bytes _ c.succeeded.ensures (none_rejected (drop a.place a.words.now) none),
     )
 
 -- a draw that no number refuses has a good place and a good length
@@ -54,7 +54,7 @@ fill-trits-requires c κs =
 sub-rejected-bytes : tie.Need-overflow-sub-rejected-bytes
 sub-rejected-bytes c =
     let called = c.before.before.before in
-    taken-forward _ _ _ called.fill-trits.ensures.1 c.before.if3.true
+    taken_forward _ _ _ called.fill-trits.ensures.1 c.before.if3.true
 
 -- from where the output was filled back to where no number refused
 abbrev judged-before : tie.After-fill-trits → tie.Else1
@@ -76,10 +76,10 @@ returns-3 c =
     let judged = made.before.before.before in
     let a = judged.before.before.before.args in (
       rw c.succeeded-after.ensures
-          (trits-filled (λ cs. cs) (λ (v : ℤ). v) (λ cs. sym (map-id cs)) a.words.now a.place a.output.now judged.before.draw-number.ensures judged.if1.false _
-          (made-agrees (pos 0) (negsuc 0 ∷ pos 0 ∷ pos 1 ∷ []) (omega arith) (rw made.before.minus_one.ensures at made.trits.ensures) _ (below-three _ refl refl refl))
+          (trits_filled (λ cs. cs) (λ (v : ℤ). v) (λ cs. sym (map_id cs)) a.words.now a.place a.output.now judged.before.draw-number.ensures judged.if1.false _
+          (made_agrees (pos 0) (negsuc 0 ∷ pos 0 ∷ pos 1 ∷ []) (omega arith) (rw made.before.minus_one.ensures at made.trits.ensures) _ (below-three _ refl refl refl))
           called.fill-trits.ensures.0.0 (rw tested.if3.true at called.fill-trits.ensures.0.1)),
-      reports-bytes _ c.succeeded-after.ensures
+      reports_bytes _ c.succeeded-after.ensures
           (taken-rejected _ _ _ called.fill-trits.ensures.1 tested.if3.true c.before.rejected-bytes.ensures),
     )
 
@@ -90,13 +90,13 @@ returns-4 c =
     let judged = judged-before called in
     let a = judged.before.before.before.args in (
       rw c.refused2.ensures
-          (trits-lacking (λ cs. cs) (λ (v : ℤ). v) (λ cs. sym (map-id cs)) a.words.now a.place a.output.now judged.before.draw-number.ensures judged.if1.left
+          (trits_lacking (λ cs. cs) (λ (v : ℤ). v) (λ cs. sym (map_id cs)) a.words.now a.place a.output.now judged.before.draw-number.ensures judged.if1.left
           _ (rw tested.if3.false at called.fill-trits.ensures.0.1) (rw called.fill-trits.auto.0 at c.before.before.clear.ensures)),
-      reports-refused _ (λ z. omega arith) c.refused2.ensures,
+      reports_refused _ (λ z. omega arith) c.refused2.ensures,
     )
 
-pub draw-uniform-ternary-spec : {M : Type 1} → statement M
-draw-uniform-ternary-spec =
+pub draw_uniform_ternary_spec : {M : Type 1} → statement M
+draw_uniform_ternary_spec =
     tie.close
     (tie.spec (λ c κs. search rules) (λ c κs. search rules) returns (λ c κs. search rules) returns-2 (λ c κs. search rules) (λ c κs. search rules)
     (λ c κs. search rules) (λ c. search rules) fill-trits-requires sub-rejected-bytes add-rejected-bytes add-rejected-bytes-2 (λ c κs. search rules)

@@ -4,10 +4,10 @@ use mathlib.Core.Path.{refl, sym}
 use native.Mathlib.Omega.{arith}
 use borrow.Author.Rules.{rules}
 use lib.IntN.{ℤ, pos, negsuc}
-use Rattle.distr.specs.Packed.{signValue}
-use Rattle.distr.proofs.Writing.{map-id}
-use Rattle.distr.proofs.Skipping.{reports-nothing}
-use Rattle.packed.proofs.Pairing.{made-paired, made-agrees}
+use Rattle.distr.specs.Packed.{sign_value}
+use Rattle.distr.proofs.Writing.{map_id}
+use Rattle.distr.proofs.Skipping.{reports_nothing}
+use Rattle.packed.proofs.Pairing.{made-paired, made_agrees}
 use Rattle.packed.proofs.Deciding.{below_two}
 use Rattle.packed_i64.proofs.ternary.sample_signs_to.Statement.{statement}
 use Rattle.packed_i64.proofs.ternary.sample_signs_to.Tie as tie
@@ -22,12 +22,12 @@ returns c =
     let called = c.before in
     let made = called.before.before.before.before in (
       rw called.before.before.before.sign-words.ensures at
-          (called.draw.ensures.0.draws (λ cs. cs) (λ (v : ℤ). v) signValue (λ cs. sym (map-id cs)) refl
-          (made-agrees (pos 0) (negsuc 0 ∷ pos 1 ∷ []) (omega arith) (rw made.before.minus_one.ensures at made.bits.ensures) _ (below_two _ refl refl))),
-      reports-nothing called.draw.result called.draw.ensures.1,
+          (called.draw.ensures.0.draws (λ cs. cs) (λ (v : ℤ). v) sign_value (λ cs. sym (map_id cs)) refl
+          (made_agrees (pos 0) (negsuc 0 ∷ pos 1 ∷ []) (omega arith) (rw made.before.minus_one.ensures at made.bits.ensures) _ (below_two _ refl refl))),
+      reports_nothing called.draw.result called.draw.ensures.1,
     )
 
-pub sample-signs-to-spec : {M : Type 1} → statement M
-sample-signs-to-spec =
+pub sample_signs_to_spec : {M : Type 1} → statement M
+sample_signs_to_spec =
     tie.close
     (tie.spec (λ c κs. search rules) (λ c κs. search rules) (λ c κs. search rules) (λ c. search rules) draw-requires (λ c. search rules) returns)

@@ -4,9 +4,9 @@ use mathlib.Core.Path.{refl}
 use native.Mathlib.Omega.{arith}
 use borrow.Author.Rules.{rules}
 use lib.IntN.{pos}
-use Rattle.distr.proofs.Skipping.{reports-nothing}
-use Rattle.output_u64.specs.Out.{heldOne, held}
-use Rattle.packed.proofs.Pairing.{made-paired, made-agrees}
+use Rattle.distr.proofs.Skipping.{reports_nothing}
+use Rattle.output_u64.specs.Out.{held_one, held}
+use Rattle.packed.proofs.Pairing.{made-paired, made_agrees}
 use Rattle.packed.proofs.Deciding.{below_two}
 use Rattle.packed_u64.proofs.binary.sample_uniform_binary_values_to.Statement.{statement}
 use Rattle.packed_u64.proofs.binary.sample_uniform_binary_values_to.Tie as tie
@@ -20,11 +20,11 @@ returns c =
     let encoding = called.before.before.before.before.before.before.before.args.encoding in
     let made = called.before.before.before.before in (
       rw called.before.before.before.binary-words.ensures at
-          (called.draw.ensures.0.draws (held encoding) (heldOne encoding) pos (λ cs. refl) refl
-          (made-agrees 0 (0 ∷ 1 ∷ []) (omega arith) made.bits.ensures _ (below_two _ refl refl))),
-      reports-nothing called.draw.result called.draw.ensures.1,
+          (called.draw.ensures.0.draws (held encoding) (held_one encoding) pos (λ cs. refl) refl
+          (made_agrees 0 (0 ∷ 1 ∷ []) (omega arith) made.bits.ensures _ (below_two _ refl refl))),
+      reports_nothing called.draw.result called.draw.ensures.1,
     )
 
-pub sample-uniform-binary-values-to-spec : {M : Type 1} → statement M
-sample-uniform-binary-values-to-spec =
+pub sample_uniform_binary_values_to_spec : {M : Type 1} → statement M
+sample_uniform_binary_values_to_spec =
     tie.close (tie.spec (λ c κs. search rules) (λ c κs. search rules) (λ c. search rules) draw-requires (λ c. search rules) returns)

@@ -1,8 +1,8 @@
 -- `stores::fill_bytes` fills the output by the table of pairs: what the rule gives stays the same from turn to turn.
 use Prim.Native.Nat.{◌+◌, ◌*◌, ◌-◌}
 use native.Mathlib.Omega.{arith}
-use Rattle.packed.proofs.TritLoop.{TritLoop, trit-none, trit-word, trit-skip, trit-byte, trit-last, trit-short, trit-done}
-use Rattle.packed.proofs.TritLoop.{looked-short, looked-done}
+use Rattle.packed.proofs.TritLoop.{TritLoop, trit_none, trit_word, trit_skip, trit_byte, trit_last, trit_short, trit_done}
+use Rattle.packed.proofs.TritLoop.{looked_short, looked_done}
 use Rattle.packed_u64.proofs.stores.fill_bytes.Statement.{statement}
 use Rattle.packed_u64.proofs.stores.fill_bytes.Tie as tie
 
@@ -13,11 +13,11 @@ invariant-loop output₀ from pairs by groups words place n count at₀ next₀ 
 abbrev decreases-loop : tie.decreases-loop
 decreases-loop output₀ from pairs by groups words place n count at₀ next₀ rest₀ left₀ output at next rest left = 5 * (count - next) + left
 
-pub fill-bytes-spec : {M : Type 1} → statement M
-fill-bytes-spec =
+pub fill_bytes_spec : {M : Type 1} → statement M
+fill_bytes_spec =
     tie.close
-    (tie.spec invariant-loop decreases-loop (λ c. search trit-none) (λ c. cc) (λ c. ((search, search trit-short), looked-short _ _ _ _)) (λ c. omega arith)
-    (λ c. omega arith) (λ c. omega arith) (λ c. omega arith) (λ c. search trit-word) (λ c. omega arith) (λ c. omega arith)
-    (λ c κs. (omega arith, omega arith, search)) (λ c. omega arith) (λ c. search trit-byte) (λ c. omega arith)
-    (λ c κs. (omega arith, omega arith, search)) (λ c. omega arith) (λ c κs. omega arith) (λ c. omega arith) (λ c. search trit-last)
-    (λ c. omega arith) (λ c. search trit-skip) (λ c. cc) (λ c. ((search, search trit-done), search looked-done)))
+    (tie.spec invariant-loop decreases-loop (λ c. search trit_none) (λ c. cc) (λ c. ((search, search trit_short), looked_short _ _ _ _)) (λ c. omega arith)
+    (λ c. omega arith) (λ c. omega arith) (λ c. omega arith) (λ c. search trit_word) (λ c. omega arith) (λ c. omega arith)
+    (λ c κs. (omega arith, omega arith, search)) (λ c. omega arith) (λ c. search trit_byte) (λ c. omega arith)
+    (λ c κs. (omega arith, omega arith, search)) (λ c. omega arith) (λ c κs. omega arith) (λ c. omega arith) (λ c. search trit_last)
+    (λ c. omega arith) (λ c. search trit_skip) (λ c. cc) (λ c. ((search, search trit_done), search looked_done)))

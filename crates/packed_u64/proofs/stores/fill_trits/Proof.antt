@@ -2,7 +2,7 @@
 use mathlib.Core.Path.{◌∙◌}
 use borrow.Author.Rules.{rules}
 use lib.ListN.{drop}
-use Rattle.packed.proofs.TritLoop.{trits-all, looked-all}
+use Rattle.packed.proofs.TritLoop.{trits_all, looked_all}
 use Rattle.packed_u64.proofs.stores.fill_trits.Statement.{statement}
 use Rattle.packed_u64.proofs.stores.fill_trits.Tie as tie
 
@@ -16,10 +16,10 @@ returns c =
     let filled = c.before.before.fill-bytes.ensures in
     let stored = c.before.before.before.before.before.before in
     let a = stored.before.before.before.before.before.args in
-    let all = trits-all 0 a.pairs.now a.output.now (drop a.place a.words.now) in (
+    let all = trits_all 0 a.pairs.now a.output.now (drop a.place a.words.now) in (
       (filled.0.0, filled.0.1 ∙ stored.store_words_lem.ensures.0.2 ∙ all),
-      looked-all _ _ _ _ _ stored.store_words_lem.ensures.1 filled.1,
+      looked_all _ _ _ _ _ stored.store_words_lem.ensures.1 filled.1,
     )
 
-pub fill-trits-spec : {M : Type 1} → statement M
-fill-trits-spec = tie.close (tie.spec (λ c κs. search rules) fill-bytes-requires (λ c. search rules) returns)
+pub fill_trits_spec : {M : Type 1} → statement M
+fill_trits_spec = tie.close (tie.spec (λ c κs. search rules) fill-bytes-requires (λ c. search rules) returns)

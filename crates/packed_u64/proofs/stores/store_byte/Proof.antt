@@ -3,7 +3,7 @@ use native.Mathlib.Omega.{arith}
 use borrow.Author.Rules.{rules}
 use lib.Dec.{ltb}
 use mathlib.Core.Path.{refl}
-use Rattle.packed.proofs.TritLoop.{once, byte-stored}
+use Rattle.packed.proofs.TritLoop.{once, byte_stored}
 use Rattle.packed_u64.proofs.stores.store_byte.Statement.{statement}
 use Rattle.packed_u64.proofs.stores.store_byte.Tie as tie
 
@@ -20,8 +20,8 @@ add-result c =
 returns : tie.Need-returns
 returns c =
     let pre = c.before.before.before.before.before.before.requires in
-    byte-stored _ _ _ pre.0 refl c.before.before.store-trits.ensures
+    byte_stored _ _ _ pre.0 refl c.before.before.store-trits.ensures
 
-pub store-byte-spec : {M : Type 1} → statement M
-store-byte-spec =
+pub store_byte_spec : {M : Type 1} → statement M
+store_byte_spec =
     tie.close (tie.spec (λ c κs. search rules) (λ c. search rules) mul-result add-result (λ c. search rules) returns)

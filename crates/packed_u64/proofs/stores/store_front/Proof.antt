@@ -2,7 +2,7 @@
 use Prim.Native.Nat.{◌-◌, ◌≤◌}
 use native.Mathlib.Omega.{arith}
 use native.Mathlib.Nat.{le_antisymm}
-use Rattle.packed.proofs.Storing.{Copied, copied_none, copied_more, copied-length}
+use Rattle.packed.proofs.Storing.{Copied, copied_none, copied_more, copied_length}
 use Rattle.packed_u64.proofs.stores.store_front.Statement.{statement}
 use Rattle.packed_u64.proofs.stores.store_front.Tie as tie
 
@@ -16,19 +16,19 @@ loop-holds : tie.Need-loop-init invariant-loop decreases-loop
 loop-holds c = (omega arith, copied_none _ _ _ c.requires.0)
 
 slice-write-output : tie.Need-slice-write-output invariant-loop decreases-loop
-slice-write-output c = omega (arith, copied-length _ _ _ c.before.before.loop.invariant.1)
+slice-write-output c = omega (arith, copied_length _ _ _ c.before.before.loop.invariant.1)
 
 loop-again : tie.Need-loop-preserved invariant-loop decreases-loop
 loop-again c = (omega arith, copied_more _ _ _ 0 (omega arith) (omega arith) c.before.before.loop.invariant.1)
 
 same_length : tie.Need-same-length invariant-loop decreases-loop
-same_length c = copied-length _ _ _ c.before.loop.invariant.1
+same_length c = copied_length _ _ _ c.before.loop.invariant.1
 
 returns : tie.Need-returns invariant-loop decreases-loop
 returns c = rw (le_antisymm c.before.loop.invariant.0 c.loop-test.false) at c.before.loop.invariant.1.holds
 
-pub store-front-spec : {M : Type 1} → statement M
-store-front-spec =
+pub store_front_spec : {M : Type 1} → statement M
+store_front_spec =
     tie.close
     (tie.spec invariant-loop decreases-loop (λ c. omega arith) loop-holds (λ c. omega arith) (λ c. omega arith) (λ c. omega arith) (λ c. omega arith)
     slice-write-output (λ c. omega arith) (λ c. omega arith) loop-again same_length returns)

@@ -8,8 +8,8 @@ use Rattle.packed_u64.proofs.stores.store_pair.Tie as tie
 slice-write-output-2 : tie.Need-slice-write-output-2
 slice-write-output-2 c = simp length-set (omega arith)
 
-pub store-pair-spec : {M : Type 1} → statement M
-store-pair-spec =
+pub store_pair_spec : {M : Type 1} → statement M
+store_pair_spec =
     tie.close
     (tie.spec (λ c. search rules) (λ c. search rules) (λ c. search rules) (λ c. search rules) (λ c. search rules) (λ c. search rules)
     (λ c. search rules) (λ c. search rules) (λ c. search rules) slice-write-output-2 (λ c. search rules) (λ c. search rules))

@@ -4,7 +4,7 @@ use Prim.Native.Nat.{◌<◌}
 use native.Mathlib.Omega.{arith}
 use borrow.Author.Rules.{rules}
 use lib.ListN.{length, length-set}
-use Rattle.packed.proofs.Storing.{five-trits}
+use Rattle.packed.proofs.Storing.{five_trits}
 use Rattle.packed.proofs.TritTable.{Within, same-places, places-within}
 use Rattle.packed_u64.proofs.stores.store_trits.Statement.{statement}
 use Rattle.packed_u64.proofs.stores.store_trits.Tie as tie
@@ -47,11 +47,11 @@ returns c =
     let first = second.before.before.before.before in
     let found = first.before.before in
     let start = found.before.before.before in
-    five-trits _ _ _ _ start.args.byte start.requires.0 start.requires.2.paired
+    five_trits _ _ _ _ start.args.byte start.requires.0 start.requires.2.paired
     (λ b. found.places_of.ensures ∙ same-places start.args.by start.requires.2.kept start.args.byte b) first.store_pair.ensures second.store-pair2.ensures
 
-pub store-trits-spec : {M : Type 1} → statement M
-store-trits-spec =
+pub store_trits_spec : {M : Type 1} → statement M
+store_trits_spec =
     tie.close
     (tie.spec (λ c. search rules) (λ c κs. search rules) store-pair-requires (λ c. search rules) store-pair-requires-2 (λ c. omega (arith, last_within c))
     (λ c. last_within c.before) (λ c. search rules) (λ c. search rules) (λ c. search rules) same_length returns)

@@ -14,6 +14,6 @@ returns c =
     let first = second.before.before.before.before in
     bytes-stored _ _ first.IsStore-byte.ensures (bytes-stored _ _ second.store-byte2.ensures (bytes-stored _ _ third.store-byte3.ensures fourth.store-byte4.ensures))
 
-pub store-word-spec : {M : Type 1} → statement M
-store-word-spec =
+pub store_word_spec : {M : Type 1} → statement M
+store_word_spec =
     tie.close (tie.spec (λ c κs. search rules) (λ c κs. search rules) (λ c κs. search rules) (λ c κs. search rules) (λ c. search rules) returns)

@@ -1,7 +1,7 @@
 -- `stores::store_words` stores whole words: what the rule gives from the words left stays the same from turn to turn.
 use Prim.Native.Nat.{◌-◌, zero-le}
 use native.Mathlib.Omega.{arith}
-use Rattle.packed.proofs.TritLoop.{TritLoop, trit-none, trit-whole, words-stored}
+use Rattle.packed.proofs.TritLoop.{TritLoop, trit_none, trit_whole, words-stored}
 use Rattle.packed_u64.proofs.stores.store_words.Statement.{statement}
 use Rattle.packed_u64.proofs.stores.store_words.Tie as tie
 
@@ -14,10 +14,10 @@ decreases-loop output₀ pairs by groups words place n count at₀ next₀ last 
 returns : tie.Need-returns invariant-loop decreases-loop
 returns c =
     let start = c.before.before.before.before in
-    words-stored _ _ _ _ _ start.args.output.now (trit-none _ _ _ _ _ _ _ zero-le start.requires.0 start.requires.1)
+    words-stored _ _ _ _ _ start.args.output.now (trit_none _ _ _ _ _ _ _ zero-le start.requires.0 start.requires.1)
 
 loop-holds : tie.Need-loop-init invariant-loop decreases-loop
-loop-holds c = let start = c.before.before.before.before in trit-none _ _ _ _ _ _ _ zero-le start.requires.0 start.requires.1
+loop-holds c = let start = c.before.before.before.before in trit_none _ _ _ _ _ _ _ zero-le start.requires.0 start.requires.1
 
 same_length : tie.Need-same-length invariant-loop decreases-loop
 same_length c = c.before.before.loop.invariant.sized
@@ -33,7 +33,7 @@ loop-again c =
     let after = c.before.before in
     let called = after.Store-word in
     let at-loop = after.before.before.before.before.before in
-    trit-whole _ _ _ _ _ _ _ (omega arith) (omega arith) called.auto.0 at-loop.loop.invariant called.ensures
+    trit_whole _ _ _ _ _ _ _ (omega arith) (omega arith) called.auto.0 at-loop.loop.invariant called.ensures
 
 same-length-2 : tie.Need-same-length-2 invariant-loop decreases-loop
 same-length-2 c = c.before.loop.invariant.sized
@@ -41,8 +41,8 @@ same-length-2 c = c.before.loop.invariant.sized
 returns-3 : tie.Need-returns-3 invariant-loop decreases-loop
 returns-3 c = words-stored _ _ _ _ _ _ c.before.loop.invariant
 
-pub store-words-spec : {M : Type 1} → statement M
-store-words-spec =
+pub store_words_spec : {M : Type 1} → statement M
+store_words_spec =
     tie.close
     (tie.spec invariant-loop decreases-loop returns loop-holds same_length returns-2 (λ c. omega arith) (λ c. omega arith) store-word-requires
     (λ c. omega arith) (λ c. omega arith) loop-again same-length-2 returns-3)

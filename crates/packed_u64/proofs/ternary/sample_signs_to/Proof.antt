@@ -4,10 +4,10 @@ use mathlib.Core.Path.{refl}
 use native.Mathlib.Omega.{arith}
 use borrow.Author.Rules.{rules}
 use lib.IntN.{negsuc}
-use Rattle.distr.specs.Packed.{signValue}
-use Rattle.distr.proofs.Skipping.{reports-nothing}
-use Rattle.output_u64.specs.Out.{heldOne, held}
-use Rattle.packed.proofs.Pairing.{made-paired, made-agrees}
+use Rattle.distr.specs.Packed.{sign_value}
+use Rattle.distr.proofs.Skipping.{reports_nothing}
+use Rattle.output_u64.specs.Out.{held_one, held}
+use Rattle.packed.proofs.Pairing.{made-paired, made_agrees}
 use Rattle.packed.proofs.Deciding.{below_two}
 use Rattle.packed_u64.proofs.ternary.sample_signs_to.Statement.{statement}
 use Rattle.packed_u64.proofs.ternary.sample_signs_to.Tie as tie
@@ -23,14 +23,14 @@ returns c =
     let called = c.before.before in
     let made = called.before.before.before.before in
     let encoding = made.before.before.before.before.args.encoding in
-    let minus = heldOne encoding (negsuc 0) in (
+    let minus = held_one encoding (negsuc 0) in (
       rw called.before.before.before.sign-words.ensures at
-          (called.draw.ensures.0.draws (held encoding) (heldOne encoding) signValue (λ cs. refl) refl
-          (made-agrees 0 (minus ∷ 1 ∷ []) (omega arith) (rw made.before.minus_one.ensures at made.bits.ensures) _ (below_two _ refl refl))),
-      reports-nothing called.draw.result called.draw.ensures.1,
+          (called.draw.ensures.0.draws (held encoding) (held_one encoding) sign_value (λ cs. refl) refl
+          (made_agrees 0 (minus ∷ 1 ∷ []) (omega arith) (rw made.before.minus_one.ensures at made.bits.ensures) _ (below_two _ refl refl))),
+      reports_nothing called.draw.result called.draw.ensures.1,
     )
 
-pub sample-signs-to-spec : {M : Type 1} → statement M
-sample-signs-to-spec =
+pub sample_signs_to_spec : {M : Type 1} → statement M
+sample_signs_to_spec =
     tie.close
     (tie.spec (λ c κs. search rules) (λ c κs. search rules) (λ c κs. search rules) (λ c. search rules) draw-requires (λ c. search rules) returns)

@@ -4,11 +4,11 @@ use mathlib.Core.Path.{refl}
 use native.Mathlib.Omega.{arith}
 use borrow.Author.Rules.{rules}
 use lib.IntN.{negsuc}
-use Rattle.distr.specs.Packed.{sparseValue}
-use Rattle.distr.proofs.Skipping.{reports-nothing}
-use Rattle.output_u64.specs.Out.{heldOne, held}
-use Rattle.packed.proofs.Pairing.{made-paired, made-agrees}
-use Rattle.packed.proofs.Deciding.{below-four}
+use Rattle.distr.specs.Packed.{sparse_value}
+use Rattle.distr.proofs.Skipping.{reports_nothing}
+use Rattle.output_u64.specs.Out.{held_one, held}
+use Rattle.packed.proofs.Pairing.{made-paired, made_agrees}
+use Rattle.packed.proofs.Deciding.{below_four}
 use Rattle.packed_u64.proofs.ternary.sample_sparse_ternary_values_to.Statement.{statement}
 use Rattle.packed_u64.proofs.ternary.sample_sparse_ternary_values_to.Tie as tie
 
@@ -23,14 +23,14 @@ returns c =
     let called = c.before.before in
     let made = called.before.before.before.before in
     let encoding = made.before.before.before.before.args.encoding in
-    let minus = heldOne encoding (negsuc 0) in (
+    let minus = held_one encoding (negsuc 0) in (
       rw called.before.before.before.sparse-words.ensures at
-          (called.draw.ensures.0.draws (held encoding) (heldOne encoding) sparseValue (λ cs. refl) refl
-          (made-agrees 0 (0 ∷ 0 ∷ 1 ∷ minus ∷ []) (omega arith) (rw made.before.minus_one.ensures at made.groups.ensures) _ (below-four _ refl refl refl refl))),
-      reports-nothing called.draw.result called.draw.ensures.1,
+          (called.draw.ensures.0.draws (held encoding) (held_one encoding) sparse_value (λ cs. refl) refl
+          (made_agrees 0 (0 ∷ 0 ∷ 1 ∷ minus ∷ []) (omega arith) (rw made.before.minus_one.ensures at made.groups.ensures) _ (below_four _ refl refl refl refl))),
+      reports_nothing called.draw.result called.draw.ensures.1,
     )
 
-pub sample-sparse-ternary-values-to-spec : {M : Type 1} → statement M
-sample-sparse-ternary-values-to-spec =
+pub sample_sparse_ternary_values_to_spec : {M : Type 1} → statement M
+sample_sparse_ternary_values_to_spec =
     tie.close
     (tie.spec (λ c κs. search rules) (λ c κs. search rules) (λ c κs. search rules) (λ c. search rules) draw-requires (λ c. search rules) returns)

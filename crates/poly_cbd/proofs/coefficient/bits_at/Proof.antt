@@ -51,8 +51,8 @@ returns c =
     let s = c.before.before in
     holds-bits s.args.eta s.args.bytes.now s.args.i (omega (arith, small _ s.requires.0.0)) (λ k. omega (arith, c.shared-slice-known2.given k))
 
-pub bits-at-spec : {M : Type 1} → statement M
-bits-at-spec =
+pub bits_at_spec : {M : Type 1} → statement M
+bits_at_spec =
     tie.close
     (tie.spec (λ c. search rules) mul-first sub-last add-last shared-slice-read-low cast-low shared-slice-read-high cast-high mul-result add-result
     (λ c. search rules) (λ c. search rules) returns)

@@ -3,12 +3,12 @@ use Prim.Native.Nat.{◌+◌, ◌-◌, ◌≤◌}
 use mathlib.Core.Path.{◌≡◌, ap, ◌∙◌}
 use native.Mathlib.Nat.{le_antisymm}
 use native.Mathlib.Omega.{arith}
-use Rattle.poly_cbd.proofs.Bits.{sumsAfter, mask_fits, no-turns, turn, sums-small}
+use Rattle.poly_cbd.proofs.Bits.{sums_after, mask_fits, no_turns, turn, sums-small}
 use Rattle.poly_cbd.proofs.coefficient.both_sums.Statement.{statement}
 use Rattle.poly_cbd.proofs.coefficient.both_sums.Tie as tie
 
 abbrev invariant-loop : tie.invariant-loop
-invariant-loop bits eta ends sums₀ j₀ sums j = (j ≤ eta) × (sums ≡ sumsAfter eta bits j)
+invariant-loop bits eta ends sums₀ j₀ sums j = (j ≤ eta) × (sums ≡ sums_after eta bits j)
 
 abbrev decreases-loop : tie.decreases-loop
 decreases-loop bits eta ends sums₀ j₀ sums j = eta - j
@@ -17,7 +17,7 @@ add-ends : tie.Need-overflow-add-ends invariant-loop decreases-loop
 add-ends c = omega (arith, mask_fits c.args.eta c.requires)
 
 loop-holds : tie.Need-loop-init invariant-loop decreases-loop
-loop-holds c = (omega arith, no-turns c.args.eta c.args.bits)
+loop-holds c = (omega arith, no_turns c.args.eta c.args.bits)
 
 add-sums : tie.Need-overflow-add-sums invariant-loop decreases-loop
 add-sums c =
@@ -36,9 +36,9 @@ returns : tie.Need-returns invariant-loop decreases-loop
 returns c =
     let a = c.before.before.args in
     let loop = c.before.loop in
-    loop.invariant.1 ∙ ap (sumsAfter a.eta a.bits) (le_antisymm loop.invariant.0 c.loop-test.false)
+    loop.invariant.1 ∙ ap (sums_after a.eta a.bits) (le_antisymm loop.invariant.0 c.loop-test.false)
 
-pub both-sums-spec : {M : Type 1} → statement M
-both-sums-spec =
+pub both_sums_spec : {M : Type 1} → statement M
+both_sums_spec =
     tie.close
     (tie.spec invariant-loop decreases-loop (λ c. omega arith) add-ends loop-holds (λ c. omega arith) add-sums (λ c. omega arith) (λ c. omega arith) loop-again returns)

@@ -44,8 +44,8 @@ returns-2 c =
     let s = taken-apart c.before in
     rw (s.x, s.y) (modulo-pos 3329 _ _ (rw (s.x, s.y) at c.if1.false) (omega (arith, s.x-small)))
 
-pub coefficient-spec : {M : Type 1} → statement M
-coefficient-spec =
+pub coefficient_spec : {M : Type 1} → statement M
+coefficient_spec =
     tie.close
     (tie.spec
     (λ c κs. search rules) both-sums-requires shl-x sub-x cast-x shr-y cast-y add-result sub-result returns returns-2)

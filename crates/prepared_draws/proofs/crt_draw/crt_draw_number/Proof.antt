@@ -2,19 +2,19 @@
 use mathlib.Core.Path.{◌≡◌, sym, ◌∙◌}
 use borrow.Author.Rules.{rules}
 use borrow.Author.Tests.{not-true, not-false}
-use Rattle.prepared_draws.proofs.Answers.{tried-method, tried-layout}
+use Rattle.prepared_draws.proofs.Answers.{tried_method, tried_layout}
 use Rattle.prepared_draws.proofs.crt_draw.crt_draw_number.Statement.{statement}
 use Rattle.prepared_draws.proofs.crt_draw.crt_draw_number.Tie as tie
 
 returns : tie.Need-returns
-returns c = tried-method _ _ _ _ _ _ (sym c.before.is-served.ensures ∙ not-true _ c.if1.true)
+returns c = tried_method _ _ _ _ _ _ (sym c.before.is-served.ensures ∙ not-true _ c.if1.true)
 
 returns-2 : tie.Need-returns-2
 returns-2 c =
     let at = c.before.before in
-    tried-layout _ _ _ _ _ _ (sym at.before.is-served.ensures ∙ not-false _ at.if1.false) _ _ c.before.maximum-magnitude.ensures
+    tried_layout _ _ _ _ _ _ (sym at.before.is-served.ensures ∙ not-false _ at.if1.false) _ _ c.before.maximum-magnitude.ensures
     c.crt-number.ensures
 
-pub crt-draw-number-spec : {M : Type 1} → statement M
-crt-draw-number-spec =
+pub crt_draw_number_spec : {M : Type 1} → statement M
+crt_draw_number_spec =
     tie.close (tie.spec (λ c κs. search rules) returns (λ c κs. search rules) (λ c κs. search rules) returns-2)

@@ -1,11 +1,11 @@
 -- `crt_draw::sample_crt_to` answers the number of its method, or tries the numbers, draws the last row and makes the rows from it; it reports
 -- what that one row skips.
 use Rattle.distr.specs.Draw.{judged}
-use Rattle.distr.proofs.Skipping.{reports-refused}
+use Rattle.distr.proofs.Skipping.{reports_refused}
 use borrow.Author.Rules.{rules}
 use borrow.Author.Tests.{ne_eqb}
 use Rattle.prepared_draws.proofs.Answers.{by-method, method-refused, method-drawn}
-use Rattle.prepared_draws.proofs.Skips.{crt-reports}
+use Rattle.prepared_draws.proofs.Skips.{crt_reports}
 use Rattle.prepared_draws.proofs.crt_draw.sample_crt_to.Statement.{statement}
 use Rattle.prepared_draws.proofs.crt_draw.sample_crt_to.Tie as tie
 
@@ -13,14 +13,14 @@ returns : tie.Need-returns
 unfolding judged
 returns c =
     let taken = c.before.if1.true in
-    (rw (c.refused.ensures, ne_eqb _ 0 taken), reports-refused _ taken c.refused.ensures)
+    (rw (c.refused.ensures, ne_eqb _ 0 taken), reports_refused _ taken c.refused.ensures)
 
 returns-2 : tie.Need-returns-2
 returns-2 c =
     let tried = c.before in (
       by-method _ _ tried.before.before.if1.false
           (method-refused _ _ _ _ _ _ _ tried.before.crt-draw-number.ensures tried.if2.true _ c.refused2.ensures),
-      reports-refused _ tried.if2.true c.refused2.ensures,
+      reports_refused _ tried.if2.true c.refused2.ensures,
     )
 
 returns-3 : tie.Need-returns-3
@@ -35,12 +35,12 @@ returns-3 c =
           (method-drawn _ _ _ _ _ _ _ number tried.if2.false drawn.draw-row.result _ row.last_row.ensures drawn.draw-row.ensures.0
           _ finished.finish.ensures.0),
       rw finished.finish.ensures.1
-          (crt-reports _ _ a.coefficient-count a.moduli.now a.words.now a.place a.output.now number tried.if2.false
+          (crt_reports _ _ a.coefficient-count a.moduli.now a.words.now a.place a.output.now number tried.if2.false
           row.last_row.ensures _ drawn.draw-row.ensures.1),
     )
 
-pub sample-crt-to-spec : {M : Type 1} → statement M
-sample-crt-to-spec =
+pub sample_crt_to_spec : {M : Type 1} → statement M
+sample_crt_to_spec =
     tie.close
     (tie.spec (λ c κs. search rules) returns (λ c κs. search rules) (λ c κs. search rules) returns-2 (λ c κs. search rules) (λ c. search rules) (λ c. search rules)
     (λ c. search rules) (λ c. search rules) (λ c κs. search rules) (λ c κs. search rules) (λ c. search rules) returns-3)

@@ -25,6 +25,6 @@ returns-3 c =
     rw (← long.before.length-number.ensures, long.if1.false, ← at.before.is-binomial.ensures, at.if2.false, ← c.before.maximum-magnitude.ensures)
     (c.modulus-number.ensures ∙ sym (first_alone _))
 
-pub residue-number-spec : {M : Type 1} → statement M
-residue-number-spec =
+pub residue_number_spec : {M : Type 1} → statement M
+residue_number_spec =
     tie.close (tie.spec (λ c κs. search rules) returns (λ c κs. search rules) returns-2 (λ c κs. search rules) (λ c κs. search rules) returns-3)

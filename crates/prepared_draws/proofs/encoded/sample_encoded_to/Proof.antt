@@ -3,11 +3,11 @@
 use mathlib.Core.Path.{sym, ◌∙◌}
 use lib.ListN.{length}
 use Rattle.distr.specs.Draw.{judged}
-use Rattle.distr.proofs.Skipping.{reports-refused}
+use Rattle.distr.proofs.Skipping.{reports_refused}
 use borrow.Author.Rules.{rules}
 use borrow.Author.Tests.{ne_eqb}
 use Rattle.prepared_draws.proofs.Answers.{by-method}
-use Rattle.prepared_draws.proofs.Residues.{residues-above, asked-refuses, encoded-asked, encoded-drawn}
+use Rattle.prepared_draws.proofs.Residues.{residues-above, asked_refuses, encoded_asked, encoded_drawn}
 use Rattle.prepared_draws.proofs.encoded.sample_encoded_to.Statement.{statement}
 use Rattle.prepared_draws.proofs.encoded.sample_encoded_to.Tie as tie
 
@@ -15,7 +15,7 @@ returns : tie.Need-returns
 unfolding judged
 returns c =
     let taken = c.before.if1.true in
-    (rw (c.refused.ensures, ne_eqb _ 0 taken), reports-refused _ taken c.refused.ensures)
+    (rw (c.refused.ensures, ne_eqb _ 0 taken), reports_refused _ taken c.refused.ensures)
 
 returns-2 : tie.Need-returns-2
 returns-2 c =
@@ -23,8 +23,8 @@ returns-2 c =
     let number = c.before.draw-number.ensures in (
       rw c.refused2.ensures
           (by-method _ _ asked.before.before.if1.false
-          (encoded-asked _ _ _ _ _ _ asked.before.residue-number.ensures asked.if2.true number)),
-      reports-refused _ (asked-refuses _ _ _ asked.if2.true number) c.refused2.ensures,
+          (encoded_asked _ _ _ _ _ _ asked.before.residue-number.ensures asked.if2.true number)),
+      reports_refused _ (asked_refuses _ _ _ asked.if2.true number) c.refused2.ensures,
     )
 
 sub-minus-one : tie.Need-overflow-sub-minus-one
@@ -37,12 +37,12 @@ returns-3 c =
     let asked = c.before.before.before.before in
     let drawn = c.before.before.sample-to-with.ensures in (
       by-method _ _ asked.before.before.if1.false
-          (encoded-drawn _ _ _ _ _ _ asked.before.residue-number.ensures asked.if2.false drawn.0),
+          (encoded_drawn _ _ _ _ _ _ asked.before.residue-number.ensures asked.if2.false drawn.0),
       drawn.1,
     )
 
-pub sample-encoded-to-spec : {M : Type 1} → statement M
-sample-encoded-to-spec =
+pub sample_encoded_to_spec : {M : Type 1} → statement M
+sample_encoded_to_spec =
     tie.close
     (tie.spec (λ c κs. search rules) returns (λ c κs. search rules) (λ c κs. search rules) (λ c κs. search rules) returns-2 sub-minus-one
     (λ c κs. search rules) (λ c. search rules) returns-3)

@@ -1,6 +1,6 @@
 -- `signed::sample_signed_to` answers the number of its method, or draws by it, and reports what that skips.
 use Rattle.distr.specs.Draw.{judged}
-use Rattle.distr.proofs.Skipping.{reports-refused}
+use Rattle.distr.proofs.Skipping.{reports_refused}
 use borrow.Author.Rules.{rules}
 use borrow.Author.Tests.{ne_eqb}
 use Rattle.prepared_draws.proofs.Answers.{by-method}
@@ -11,12 +11,12 @@ returns : tie.Need-returns
 unfolding judged
 returns c =
     let taken = c.before.if1.true in
-    (rw (c.refused.ensures, ne_eqb _ 0 taken), reports-refused _ taken c.refused.ensures)
+    (rw (c.refused.ensures, ne_eqb _ 0 taken), reports_refused _ taken c.refused.ensures)
 
 returns-2 : tie.Need-returns-2
 returns-2 c =
     let drawn = c.before.sample-to-with.ensures in
     (by-method _ _ c.before.before.before.if1.false drawn.0, drawn.1)
 
-pub sample-signed-to-spec : {M : Type 1} → statement M
-sample-signed-to-spec = tie.close (tie.spec (λ c κs. search rules) returns (λ c κs. search rules) (λ c. search rules) returns-2)
+pub sample_signed_to_spec : {M : Type 1} → statement M
+sample_signed_to_spec = tie.close (tie.spec (λ c κs. search rules) returns (λ c κs. search rules) (λ c. search rules) returns-2)

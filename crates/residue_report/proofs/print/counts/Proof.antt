@@ -11,8 +11,8 @@ invariant-loop limits counts n i₀ i = Unit {0}
 abbrev decreases-loop : tie.decreases-loop
 decreases-loop limits counts n i₀ i = n - i
 
-pub counts-spec : {M : Type 1} → statement M
-counts-spec =
+pub counts_spec : {M : Type 1} → statement M
+counts_spec =
     tie.close
     (tie.spec invariant-loop decreases-loop (λ c. search rules) (λ c. search rules) (λ c. omega arith) (λ c. omega arith) (λ c. omega arith) (λ c. omega arith)
     (λ c κs. search rules) (λ c. omega arith) (λ c. omega arith) (λ c. search rules) (λ c. search rules))

@@ -5,8 +5,8 @@ use native.Mathlib.Omega.{arith}
 use borrow.Author.Rules.{rules}
 use borrow.Author.Tests.{not-true, not-false}
 use lib.ListN.{length}
-use Rattle.residue_text.specs.Numbers.{isDigit}
-use Rattle.residue_text.proofs.Digits.{digit-bounds, Judged, judged-none, judged-more, judged-bad, judged-large, judged-all}
+use Rattle.residue_text.specs.Numbers.{is_digit}
+use Rattle.residue_text.proofs.Digits.{digit-bounds, Judged, judged_none, judged_more, judged-bad, judged_large, judged-all}
 use Rattle.residue_text.proofs.number.read_number.Statement.{statement}
 use Rattle.residue_text.proofs.number.read_number.Tie as tie
 
@@ -27,12 +27,12 @@ turned : (c : tie.Else1 invariant-loop decreases-loop)
 turned c =
     let loop = c.before.before.before.before.loop in
     rw c.before.wide.ensures
-    (judged-more _ loop.i loop.value (omega arith) (sym (ap isDigit c.before.wide.ensures) ∙ not-false _ c.if1.false) loop.invariant.1)
+    (judged_more _ loop.i loop.value (omega arith) (sym (ap is_digit c.before.wide.ensures) ∙ not-false _ c.if1.false) loop.invariant.1)
 
 returns : tie.Need-returns invariant-loop decreases-loop
 returns c =
     let loop = c.before.before.before.before.loop in
-    let other = sym (ap isDigit c.before.wide.ensures) ∙ not-true _ c.if1.true in
+    let other = sym (ap is_digit c.before.wide.ensures) ∙ not-true _ c.if1.true in
     sym (judged-bad _ _ loop.i loop.value (omega arith) other loop.invariant.1)
 
 sub-digit : tie.Need-overflow-sub-digit invariant-loop decreases-loop
@@ -42,7 +42,7 @@ sub-if2 : tie.Need-overflow-sub-if2 invariant-loop decreases-loop
 sub-if2 c = omega (arith, digit c)
 
 returns-2 : tie.Need-returns-2 invariant-loop decreases-loop
-returns-2 c = sym (judged-large _ _ _ _ (omega (arith, digit c.before)) (turned c.before))
+returns-2 c = sym (judged_large _ _ _ _ (omega (arith, digit c.before)) (turned c.before))
 
 mul-value : tie.Need-overflow-mul-value invariant-loop decreases-loop
 mul-value c = omega (arith, digit c.before)
@@ -56,15 +56,15 @@ loop-again c = (omega arith, turned c.before)
 returns-3 : tie.Need-returns-3 invariant-loop decreases-loop
 returns-3 c =
     let loop = c.before.before.loop in
-    sym (judged-large _ _ loop.i loop.value c.if3.true loop.invariant.1)
+    sym (judged_large _ _ loop.i loop.value c.if3.true loop.invariant.1)
 
 returns-4 : tie.Need-returns-4 invariant-loop decreases-loop
 returns-4 c =
     let loop = c.before.before.loop in
     sym (judged-all _ _ loop.i loop.value c.before.loop-test.false c.if3.false loop.invariant.1)
 
-pub read-number-spec : {M : Type 1} → statement M
-read-number-spec =
+pub read_number_spec : {M : Type 1} → statement M
+read_number_spec =
     tie.close
-    (tie.spec invariant-loop decreases-loop (λ c. (omega arith, judged-none _)) (λ c. omega arith) (λ c κs. search rules) returns sub-digit sub-if2 returns-2
+    (tie.spec invariant-loop decreases-loop (λ c. (omega arith, judged_none _)) (λ c. omega arith) (λ c κs. search rules) returns sub-digit sub-if2 returns-2
     mul-value add-value (λ c. omega arith) (λ c. omega arith) loop-again returns-3 returns-4)

@@ -12,5 +12,5 @@ returns-2 c = rw c.if2.true
 returns-3 : tie.Need-returns-3
 returns-3 c = rw (ne_eqb _ 0 c.before.if1.false, ne_eqb _ 1 c.if2.false)
 
-pub is-sought-spec : {M : Type 1} → statement M
-is-sought-spec = tie.close (tie.spec returns returns-2 returns-3)
+pub is_sought_spec : {M : Type 1} → statement M
+is_sought_spec = tie.close (tie.spec returns returns-2 returns-3)

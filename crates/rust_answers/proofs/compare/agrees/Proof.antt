@@ -1,7 +1,7 @@
 -- `compare::agrees` compares the index, the number, the place, both sums and what follows them.
 use Rattle.std.proofs.Common.{◌≡◌, ℕ, ◌-◌, ◌<◌, ◌≤◌, Bool, false, ◌&&◌, eqb, List, [], ◌∷◌, length, get_or, take, drop, sym, refl, ap, ◌∙◌, arith, length-drop, take_all, rules, eq-eqb, ne_eqb}
 use mathlib.Core.Bool.{and_assoc, and-false}
-use Rattle.rust_answers.specs.Answer.{same, shown, answerLine}
+use Rattle.rust_answers.specs.Answer.{same, shown, answer_line}
 use Rattle.rust_answers.proofs.compare.agrees.Statement.{statement}
 use Rattle.rust_answers.proofs.compare.agrees.Tie as tie
 
@@ -41,14 +41,14 @@ returns : tie.Need-returns
 returns c = rw (ne_eqb c.before.before.before.args.index 0 c.if1.true) refl
 
 returns-2 : tie.Need-returns-2
-unfolding answerLine
+unfolding answer_line
 returns-2 c =
     let a = c.before.before.before.before.args in
     rw (eq-eqb a.index 0 c.before.if1.false)
     (sym (short a.stored.now _ a.number a.place a.skipped-words a.skipped-bytes c.if2.true))
 
 returns-3 : tie.Need-returns-3
-unfolding answerLine
+unfolding answer_line
 returns-3 c =
     let tested = c.before.before.before.before.before.before in
     let a = tested.before.before.before.before.args in
@@ -57,7 +57,7 @@ returns-3 c =
     (joined s [] a.number a.place a.skipped-words a.skipped-bytes tested.if2.false)
 
 returns-4 : tie.Need-returns-4
-unfolding answerLine
+unfolding answer_line
 returns-4 c =
     let tested = c.before.before.before.before.before.before.before in
     let a = tested.before.before.before.before.args in
@@ -65,8 +65,8 @@ returns-4 c =
     rw (eq-eqb a.index 0 tested.before.if1.false, eq-eqb a.number 0 c.before.if3.false, c.is-shown.ensures, tail s)
     (joined s (shown a.offset a.output.now) a.number a.place a.skipped-words a.skipped-bytes tested.if2.false)
 
-pub agrees-spec : {M : Type 1} → statement M
-agrees-spec =
+pub agrees_spec : {M : Type 1} → statement M
+agrees_spec =
     tie.close
     (tie.spec returns returns-2 (λ c. search rules) (λ c. search rules) (λ c. search rules) (λ c. search rules) (λ c. search rules) (λ c. search rules)
     (λ c. search rules) returns-3 (λ c κs. search rules) returns-4)

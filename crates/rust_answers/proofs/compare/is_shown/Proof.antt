@@ -16,6 +16,6 @@ returns-2 c =
     rw (lt-leb _ _ c.before.before.before.if1.false)
     (c.same2.ensures ∙ ap (λ (d : ℕ). same a.stored.now (d ∷ [])) c.before.before.digest.ensures)
 
-pub is-shown-spec : {M : Type 1} → statement M
-is-shown-spec =
+pub is_shown_spec : {M : Type 1} → statement M
+is_shown_spec =
     tie.close (tie.spec (λ c κs. search rules) returns (λ c κs. search rules) (λ c. search rules) (λ c κs. search rules) returns-2)

@@ -9,8 +9,8 @@ invariant-loop coefficients output₀ i₀ output i = length output ≡ length o
 abbrev decreases-loop : tie.decreases-loop
 decreases-loop coefficients output₀ i₀ output i = length output₀ - i
 
-pub put-residues-spec : {M : Type 1} → statement M
-put-residues-spec =
+pub put_residues_spec : {M : Type 1} → statement M
+put_residues_spec =
     tie.close
     (tie.spec invariant-loop decreases-loop (λ c. search rules) (λ c κs. search rules) (λ c. search rules) (λ c. search rules) (λ c. search rules)
     (λ c. search rules) (λ c. search rules) (λ c. search rules) (λ c. search rules))

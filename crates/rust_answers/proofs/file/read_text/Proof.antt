@@ -9,8 +9,8 @@ invariant-loop text room₀ state₀ i₀ room state i = length room ≡ length 
 abbrev decreases-loop : tie.decreases-loop
 decreases-loop text room₀ state₀ i₀ room state i = length text - i
 
-pub read-text-spec : {M : Type 1} → statement M
-read-text-spec =
+pub read_text_spec : {M : Type 1} → statement M
+read_text_spec =
     tie.close
     (tie.spec invariant-loop decreases-loop (λ c κs. search rules) (λ c κs. search rules) (λ c. search rules) (λ c. search rules) (λ c κs. search rules)
     (λ c. search rules) (λ c. search rules) (λ c. search rules) (λ c κs. search rules) (λ c. search rules) (λ c. search rules) (λ c κs. search rules)

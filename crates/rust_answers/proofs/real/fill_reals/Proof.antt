@@ -9,8 +9,8 @@ invariant-loop values room₀ good₀ i₀ room good i = i ≤ 5000
 abbrev decreases-loop : tie.decreases-loop
 decreases-loop values room₀ good₀ i₀ room good i = 5000 - i
 
-pub fill-reals-spec : {M : Type 1} → statement M
-fill-reals-spec =
+pub fill_reals_spec : {M : Type 1} → statement M
+fill_reals_spec =
     tie.close
     (tie.spec invariant-loop decreases-loop (λ c. search rules) (λ c. search rules) (λ c. search rules) (λ c κs. search rules) (λ c. search rules)
     (λ c. search rules) (λ c κs. search rules) (λ c κs. search rules) (λ c κs. search rules) (λ c. search rules) (λ c. search rules)

@@ -9,6 +9,6 @@ invariant-loop x factor times y₀ i₀ y i = Unit {0}
 abbrev decreases-loop : tie.decreases-loop
 decreases-loop x factor times y₀ i₀ y i = times - i
 
-pub scaled-spec : {M : Type 1} → statement M
-scaled-spec =
+pub scaled_spec : {M : Type 1} → statement M
+scaled_spec =
     tie.close (tie.spec invariant-loop decreases-loop (λ c. search rules) (λ c. search rules) (λ c. search rules) (λ c. search rules) (λ c. search rules))

@@ -9,8 +9,8 @@ invariant-loop words₀ given seed good₀ x₀ i₀ words good x i = length wor
 abbrev decreases-loop : tie.decreases-loop
 decreases-loop words₀ given seed good₀ x₀ i₀ words good x i = length words₀ - i
 
-pub fill-words-spec : {M : Type 1} → statement M
-fill-words-spec =
+pub fill_words_spec : {M : Type 1} → statement M
+fill_words_spec =
     tie.close
     (tie.spec invariant-loop decreases-loop (λ c. search rules) (λ c κs. search rules) (λ c κs. search rules) (λ c. search rules) (λ c. search rules)
     (λ c κs. search rules) (λ c. search rules) (λ c. search rules) (λ c. search rules) (λ c. search rules) (λ c. search rules))

@@ -9,5 +9,5 @@ family-requires c κs = search rules
 returns : tie.Need-returns
 returns c = rw c.family.ensures
 
-pub is-binary-spec : {M : Type 1} → statement M
-is-binary-spec = tie.close (tie.spec family-requires returns)
+pub is_binary_spec : {M : Type 1} → statement M
+is_binary_spec = tie.close (tie.spec family-requires returns)

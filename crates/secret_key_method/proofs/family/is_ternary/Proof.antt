@@ -9,5 +9,5 @@ family-requires c κs = search rules
 returns : tie.Need-returns
 returns c = rw c.family.ensures
 
-pub is-ternary-spec : {M : Type 1} → statement M
-is-ternary-spec = tie.close (tie.spec family-requires returns)
+pub is_ternary_spec : {M : Type 1} → statement M
+is_ternary_spec = tie.close (tie.spec family-requires returns)

@@ -29,6 +29,6 @@ returns-4 c =
       le-ltb (2 ^ 64 - 1) c.before.before.before.args.block_size (omega arith),
     )
 
-pub block-size-number-spec : {M : Type 1} → statement M
-block-size-number-spec =
+pub block_size_number_spec : {M : Type 1} → statement M
+block_size_number_spec =
     tie.close (tie.spec returns (λ c. search rules) (λ c. search rules) returns-2 returns-3 returns-4)

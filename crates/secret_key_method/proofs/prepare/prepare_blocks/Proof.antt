@@ -1,6 +1,6 @@
 -- `prepare::prepare_blocks` hands back what the definition prepares for `BlockBinary`.
 use Rattle.secret_key_method.specs.Method.{prepared}
-use Rattle.distr.specs.Making.{secretNumber}
+use Rattle.distr.specs.Making.{secret_number}
 use borrow.Author.Rules.{rules}
 use Rattle.secret_key_method.proofs.prepare.prepare_blocks.Statement.{statement}
 use Rattle.secret_key_method.proofs.prepare.prepare_blocks.Tie as tie
@@ -12,8 +12,8 @@ judged-requires : tie.Need-judged-requires
 judged-requires c κs = search rules
 
 returns : tie.Need-returns
-unfolding secretNumber prepared
+unfolding secret_number prepared
 returns c = rw (c.judged.ensures, c.before.block-size-number.ensures)
 
-pub prepare-blocks-spec : {M : Type 1} → statement M
-prepare-blocks-spec = tie.close (tie.spec block-size-number-requires judged-requires returns)
+pub prepare_blocks_spec : {M : Type 1} → statement M
+prepare_blocks_spec = tie.close (tie.spec block-size-number-requires judged-requires returns)

@@ -1,5 +1,5 @@
 -- `prepare::prepare_gaussian` hands back what the definition prepares for `Gaussian`.
-use Rattle.secret_key_method.proofs.Preparing.{prepares-gaussian}
+use Rattle.secret_key_method.proofs.Preparing.{prepares_gaussian}
 use mathlib.Core.Path.{◌∙◌}
 use borrow.Author.Rules.{rules}
 use Rattle.secret_key_method.proofs.prepare.prepare_gaussian.Statement.{statement}
@@ -12,7 +12,7 @@ judged-requires : tie.Need-judged-requires
 judged-requires c κs = search rules
 
 returns : tie.Need-returns
-returns c = c.judged.ensures ∙ rw c.before.before.new-parameters.ensures (prepares-gaussian _)
+returns c = c.judged.ensures ∙ rw c.before.before.new-parameters.ensures (prepares_gaussian _)
 
-pub prepare-gaussian-spec : {M : Type 1} → statement M
-prepare-gaussian-spec = tie.close (tie.spec new-parameters-requires judged-requires returns)
+pub prepare_gaussian_spec : {M : Type 1} → statement M
+prepare_gaussian_spec = tie.close (tie.spec new-parameters-requires judged-requires returns)

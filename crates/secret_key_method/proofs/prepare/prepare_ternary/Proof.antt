@@ -1,5 +1,5 @@
 -- `prepare::prepare_ternary` hands back what the definition prepares for `Ternary`.
-use Rattle.secret_key_method.proofs.Preparing.{prepares-ternary}
+use Rattle.secret_key_method.proofs.Preparing.{prepares_ternary}
 use mathlib.Core.Path.{◌∙◌}
 use borrow.Author.Rules.{rules}
 use Rattle.secret_key_method.proofs.prepare.prepare_ternary.Statement.{statement}
@@ -17,8 +17,8 @@ returns c =
       threshold-of2.ensures,
       check-ternary-probabilities.ensures,
     )
-    (prepares-ternary _ _)
+    (prepares_ternary _ _)
 
-pub prepare-ternary-spec : {M : Type 1} → statement M
-prepare-ternary-spec =
+pub prepare_ternary_spec : {M : Type 1} → statement M
+prepare_ternary_spec =
     tie.close (tie.spec (λ c κs. search rules) (λ c κs. search rules) (λ c κs. search rules) (λ c κs. search rules) (λ c κs. search rules) returns)

@@ -1,8 +1,8 @@
 -- `SecretKeySampler::sample_encoded_to` draws residues by the method of the sampler.
 use Rattle.signed_discrete_gaussian.specs.Lent.{lent}
-use Rattle.prepared_draws.proofs.Calls.{sampler-encoded}
+use Rattle.prepared_draws.proofs.Calls.{sampler_encoded}
 use Rattle.secret_key_sampler.proofs.Made.{makes, prepares}
-use Rattle.secret_key_sampler.proofs.SamplerFloats.{sampler-fits}
+use Rattle.secret_key_sampler.proofs.SamplerFloats.{sampler_fits}
 use native.Mathlib.Omega.{arith}
 use borrow.Author.Rules.{rules}
 use Rattle.secret_key_sampler.proofs.SecretKeySampler.sample_encoded_to.Statement.{statement}
@@ -14,8 +14,8 @@ returns c =
     let tried = drawn.before.before in
     let start = tried.before.before.before.before.before.before.before in
     let a = start.args in
-    sampler-encoded makes prepares a.self (sampler-fits a.self _ start.well-formed.0) (lent a.bounds.now a.endpoints.now a.heights.now a.curve.now)
+    sampler_encoded makes prepares a.self (sampler_fits a.self _ start.well_formed.0) (lent a.bounds.now a.endpoints.now a.heights.now a.curve.now)
     a.words.now a.place tried.prepared.ensures a.modulus a.output.now (omega arith) drawn.sample-encoded-to.ensures
 
-pub sample-encoded-to-spec : {M : Type 1} → statement M
-sample-encoded-to-spec = tie.close (tie.spec (λ c κs. search rules) (λ c κs. search rules) (λ c. search rules) returns)
+pub sample_encoded_to_spec : {M : Type 1} → statement M
+sample_encoded_to_spec = tie.close (tie.spec (λ c κs. search rules) (λ c κs. search rules) (λ c. search rules) returns)

@@ -1,8 +1,8 @@
 -- `SecretKeySampler::sample_signed_to` draws signed coefficients by the method of the sampler.
 use Rattle.signed_discrete_gaussian.specs.Lent.{lent}
-use Rattle.prepared_draws.proofs.Calls.{sampler-signed}
+use Rattle.prepared_draws.proofs.Calls.{sampler_signed}
 use Rattle.secret_key_sampler.proofs.Made.{makes, prepares}
-use Rattle.secret_key_sampler.proofs.SamplerFloats.{sampler-fits}
+use Rattle.secret_key_sampler.proofs.SamplerFloats.{sampler_fits}
 use borrow.Author.Rules.{rules}
 use Rattle.secret_key_sampler.proofs.SecretKeySampler.sample_signed_to.Statement.{statement}
 use Rattle.secret_key_sampler.proofs.SecretKeySampler.sample_signed_to.Tie as tie
@@ -13,8 +13,8 @@ returns c =
     let tried = drawn.before.before in
     let start = tried.before.before.before.before.before.before in
     let a = start.args in
-    sampler-signed makes prepares a.self (sampler-fits a.self _ start.well-formed.0) (lent a.bounds.now a.endpoints.now a.heights.now a.curve.now)
+    sampler_signed makes prepares a.self (sampler_fits a.self _ start.well_formed.0) (lent a.bounds.now a.endpoints.now a.heights.now a.curve.now)
     a.words.now a.place tried.prepared.ensures a.output.now drawn.sample-signed-to.ensures
 
-pub sample-signed-to-spec : {M : Type 1} → statement M
-sample-signed-to-spec = tie.close (tie.spec (λ c κs. search rules) (λ c κs. search rules) (λ c. search rules) returns)
+pub sample_signed_to_spec : {M : Type 1} → statement M
+sample_signed_to_spec = tie.close (tie.spec (λ c κs. search rules) (λ c κs. search rules) (λ c. search rules) returns)

@@ -1,17 +1,17 @@
 -- `SecretKeySampler::validate_length` tests the sampler, then the length by its distribution.
 use mathlib.Core.Path.{◌∙◌, ap}
-use Rattle.draw_laws.proofs.Making.{is-good, unmade-first, made-next}
+use Rattle.draw_laws.proofs.Making.{is-good, unmade_first, made-next}
 use Rattle.methods.specs.declared.SamplingMethod.{SamplingMethod}
 use Rattle.methods.specs.Method.{length_of}
 use Rattle.secret_key_method.proofs.Prepared.{prepared-length}
 use Rattle.secret_key_sampler.proofs.Made.{makes, made-method}
-use Rattle.secret_key_sampler.proofs.SamplerFloats.{sampler-fits}
+use Rattle.secret_key_sampler.proofs.SamplerFloats.{sampler_fits}
 use borrow.Author.Rules.{rules}
 use Rattle.secret_key_sampler.proofs.SecretKeySampler.validate_length.Statement.{statement}
 use Rattle.secret_key_sampler.proofs.SecretKeySampler.validate_length.Tie as tie
 
 returns : tie.Need-returns
-returns c = unmade-first makes c.before.before.args.self c.before.is_made.ensures _ c.if1.true
+returns c = unmade_first makes c.before.before.args.self c.before.is_made.ensures _ c.if1.true
 
 returns-2 : tie.Need-returns-2
 returns-2 c =
@@ -20,10 +20,10 @@ returns-2 c =
     let self = start.args.self in
     let made = is-good makes self tried.before.is_made.ensures tried.if1.false in
     c.length-number.ensures
-    ∙ ap (λ (m : SamplingMethod). length_of m start.args.length) (made-method self (sampler-fits self _ start.well-formed.0) made)
+    ∙ ap (λ (m : SamplingMethod). length_of m start.args.length) (made-method self (sampler_fits self _ start.well_formed.0) made)
     ∙ prepared-length self.distr start.args.length
     ∙ made-next makes self tried.before.is_made.ensures _ tried.if1.false
 
-pub validate-length-spec : {M : Type 1} → statement M
-validate-length-spec =
+pub validate_length_spec : {M : Type 1} → statement M
+validate_length_spec =
     tie.close (tie.spec (λ c κs. search rules) returns (λ c κs. search rules) returns-2)

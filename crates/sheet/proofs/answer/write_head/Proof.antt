@@ -8,5 +8,5 @@ returns : tie.Need-returns
 unfolding value_of
 returns c = c.before.before.write-line.ensures
 
-pub write-head-spec : {M : Type 1} → statement M
-write-head-spec = tie.close (tie.spec (λ c. search rules) (λ c κs. search rules) (λ c. search rules) returns)
+pub write_head_spec : {M : Type 1} → statement M
+write_head_spec = tie.close (tie.spec (λ c. search rules) (λ c κs. search rules) (λ c. search rules) returns)

@@ -17,5 +17,5 @@ returns-2 c =
     let start = c.before.before in
     rw c.if1.false (written_none start.args.text.now start.args.at (omega (arith, start.requires)))
 
-pub write-skipped-spec : {M : Type 1} → statement M
-write-skipped-spec = tie.close (tie.spec (λ c. search rules) (λ c κs. search rules) (λ c. search rules) returns returns-2)
+pub write_skipped_spec : {M : Type 1} → statement M
+write_skipped_spec = tie.close (tie.spec (λ c. search rules) (λ c κs. search rules) (λ c. search rules) returns returns-2)

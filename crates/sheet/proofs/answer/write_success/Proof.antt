@@ -1,7 +1,7 @@
 -- `answer::write_success` writes two lines, one after the other.
 use native.Mathlib.Omega.{arith}
 use borrow.Author.Rules.{rules}
-use Rattle.sheet.specs.Text.{answerText}
+use Rattle.sheet.specs.Text.{answer_text}
 use Rattle.sheet.proofs.Placing.{written_then, written-length}
 use Rattle.sheet.proofs.answer.write_success.Statement.{statement}
 use Rattle.sheet.proofs.answer.write_success.Tie as tie
@@ -13,11 +13,11 @@ write-line-requires c κs =
     omega (arith, head.write-head.ensures, written-length head.write-head.ensures.0, start.requires)
 
 returns : tie.Need-returns
-unfolding answerText
+unfolding answer_text
 returns c =
     let line = c.before.before in
     let head = line.before.before.before.before in
     (written_then head.write-head.ensures.0 line.write-line.ensures.0, omega (arith, head.write-head.ensures.1, line.write-line.ensures.1))
 
-pub write-success-spec : {M : Type 1} → statement M
-write-success-spec = tie.close (tie.spec (λ c κs. search rules) write-line-requires (λ c. search rules) returns)
+pub write_success_spec : {M : Type 1} → statement M
+write_success_spec = tie.close (tie.spec (λ c κs. search rules) write-line-requires (λ c. search rules) returns)

@@ -7,13 +7,13 @@ use native.Mathlib.Omega.{arith}
 use borrow.Author.Rules.{rules}
 use lib.Dec.{eqb}
 use lib.ListN.{length, get_or}
-use Rattle.sheet.specs.Argument.{sameBytes, skippedWord}
+use Rattle.sheet.specs.Argument.{same_bytes, skipped_word}
 use Rattle.sheet.proofs.argument.is_skipped.Statement.{statement}
 use Rattle.sheet.proofs.argument.is_skipped.Tie as tie
 
 -- lists of two lengths are not the same
-different : (xs ys : List ℕ) → (length xs ≡ length ys → ⊥) → sameBytes xs ys ≡ false
-unfolding sameBytes
+different : (xs ys : List ℕ) → (length xs ≡ length ys → ⊥) → same_bytes xs ys ≡ false
+unfolding same_bytes
 different [] [] h = absurd (h refl)
 different [] (y ∷ ys) h = refl
 different (x ∷ xs) [] h = refl
@@ -33,8 +33,8 @@ grouped true true true true true true true = refl
 seven : (l : List ℕ) → length l ≡ 7
     → (eqb (get_or l 0 0) 115 && eqb (get_or l 1 0) 107 && eqb (get_or l 2 0) 105 && eqb (get_or l 3 0) 112 && eqb (get_or l 4 0) 112
     && eqb (get_or l 5 0) 101 && eqb (get_or l 6 0) 100)
-    ≡ sameBytes l skippedWord
-unfolding sameBytes
+    ≡ same_bytes l skipped_word
+unfolding same_bytes
 seven [] h = absurd (omega (arith, h))
 seven (a ∷ []) h = absurd (omega (arith, h))
 seven (a ∷ b ∷ []) h = absurd (omega (arith, h))
@@ -46,7 +46,7 @@ seven (a ∷ b ∷ c ∷ d ∷ e ∷ f ∷ g ∷ []) h = grouped (eqb a 115) (eq
 seven (a ∷ b ∷ c ∷ d ∷ e ∷ f ∷ g ∷ x ∷ l) h = absurd (omega (arith, h))
 
 returns : tie.Need-returns
-returns c = sym (different c.before.args.word.now skippedWord c.if1.true)
+returns c = sym (different c.before.args.word.now skipped_word c.if1.true)
 
 returns-2 : tie.Need-returns-2
 returns-2 c =
@@ -54,8 +54,8 @@ returns-2 c =
     let test = fourth.before.before.before.before in
     seven test.before.args.word.now test.if1.false
 
-pub is-skipped-spec : {M : Type 1} → statement M
-is-skipped-spec =
+pub is_skipped_spec : {M : Type 1} → statement M
+is_skipped_spec =
     tie.close
     (tie.spec returns (λ c. search rules) (λ c. search rules) (λ c. search rules) (λ c. search rules) (λ c. search rules) (λ c. search rules)
     (λ c. search rules) returns-2)

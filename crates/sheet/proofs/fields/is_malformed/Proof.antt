@@ -3,8 +3,8 @@ use borrow.Author.Rules.{rules}
 use borrow.Author.Tests.{ltb-false}
 use lib.Dec.{ltb}
 use lib.ListN.{length}
-use Rattle.distr.specs.Constants.{sheetBytes}
-use Rattle.distr.proofs.Reading.{or-false}
+use Rattle.distr.specs.Constants.{sheet_bytes}
+use Rattle.distr.proofs.Reading.{or_false}
 use Rattle.sheet.specs.Sheet.{malformed}
 use Rattle.sheet.proofs.fields.is_malformed.Statement.{statement}
 use Rattle.sheet.proofs.fields.is_malformed.Tie as tie
@@ -16,11 +16,11 @@ returns c = rw c.if1.true
 read-fields-requires : tie.Need-read-fields-requires
 read-fields-requires c κs =
     let size = length c.before.before.args.sheet.now in
-    ltb-false size 32 (or-false (ltb size 32) (ltb sheetBytes size) c.if1.false).0
+    ltb-false size 32 (or_false (ltb size 32) (ltb sheet_bytes size) c.if1.false).0
 
 returns-2 : tie.Need-returns-2
 unfolding malformed
 returns-2 c = rw (c.before.before.if1.false, ← c.before.read-fields.ensures) c.bad-fields.ensures
 
-pub is-malformed-spec : {M : Type 1} → statement M
-is-malformed-spec = tie.close (tie.spec returns read-fields-requires (λ c κs. search rules) returns-2)
+pub is_malformed_spec : {M : Type 1} → statement M
+is_malformed_spec = tie.close (tie.spec returns read-fields-requires (λ c κs. search rules) returns-2)

@@ -2,23 +2,23 @@
 use mathlib.Core.Path.{refl}
 use borrow.Author.Rules.{rules}
 use lib.ListN.{replicate}
-use Rattle.little_endian.specs.LittleEndian.{wordsAt}
-use Rattle.little_endian.proofs.Reading.{part-read}
+use Rattle.little_endian.specs.LittleEndian.{words_at}
+use Rattle.little_endian.proofs.Reading.{part_read}
 use Rattle.sheet.specs.Sheet.{fields_of}
-use Rattle.sheet.proofs.Answers.{prefix-length}
+use Rattle.sheet.proofs.Answers.{prefix_length}
 use Rattle.sheet.proofs.fields.read_fields.Statement.{statement}
 use Rattle.sheet.proofs.fields.read_fields.Tie as tie
 
 returns : tie.Need-returns
-unfolding fields_of wordsAt
+unfolding fields_of words_at
 returns c =
     let read = c.before.read-words in
     let start = c.before.before.before.before.before in
-    rw (part-read start.args.sheet.now 0 8 start.requires (replicate 8 0) read.new.0 refl read.ensures)
+    rw (part_read start.args.sheet.now 0 8 start.requires (replicate 8 0) read.new.0 refl read.ensures)
 
-pub read-fields-spec : {M : Type 1} → statement M
-read-fields-spec =
+pub read_fields_spec : {M : Type 1} → statement M
+read_fields_spec =
     tie.close
-    (tie.spec (λ c. search rules) (λ c. let start = c.before.before.before in prefix-length 32 start.args.sheet.now start.requires)
+    (tie.spec (λ c. search rules) (λ c. let start = c.before.before.before in prefix_length 32 start.args.sheet.now start.requires)
     (λ c κs. search rules) (λ c. search rules) (λ c. search rules) (λ c. search rules) (λ c. search rules) (λ c. search rules) (λ c. search rules)
     (λ c. search rules) (λ c. search rules) returns)

@@ -11,7 +11,7 @@ use lib.ListN.{length, get_or, take, length-set}
 use lib.Seq.{take_all}
 use lib.IntN.{pos}
 use Rattle.little_endian.specs.Patterns.{value_of, values_of}
-use Rattle.little_endian.proofs.Patterns.{fits-64, value-back}
+use Rattle.little_endian.proofs.Patterns.{fits_64, value_back}
 use Rattle.sheet.proofs.Patterns.{copied_more}
 use Rattle.sheet.proofs.reply.copy_patterns.Statement.{statement}
 use Rattle.sheet.proofs.reply.copy_patterns.Tie as tie
@@ -30,7 +30,7 @@ loop-again c =
     let cs = start.args.coefficients.now in
     let fits : SFits w64 (get_or cs loop.i (pos 0)) = record { sfits = c.before.pattern-arg.given } in
     let v = get_or cs loop.i (pos 0) in
-    let stands = ap (value_of true) (rw (to_z-of_z fits) at c.pattern.ensures) ∙ value-back v (fits-64 v fits) in (
+    let stands = ap (value_of true) (rw (to_z-of_z fits) at c.pattern.ensures) ∙ value_back v (fits_64 v fits) in (
       omega arith,
       simp length-set loop.invariant.1,
       rw (add-one loop.i)
@@ -44,8 +44,8 @@ returns c =
     let cs = start.args.coefficients.now in
     rw (take_all loop.i loop.values (omega arith), take_all loop.i cs (omega (arith, start.requires))) at loop.invariant.2
 
-pub copy-patterns-spec : {M : Type 1} → statement M
-copy-patterns-spec =
+pub copy_patterns_spec : {M : Type 1} → statement M
+copy_patterns_spec =
     tie.close
     (tie.spec invariant-loop decreases-loop (λ c. (omega arith, refl, refl)) (λ c. omega arith) (λ c. omega arith) (λ c κs. tt) (λ c. omega arith)
     (λ c. omega arith) (λ c. omega arith) (λ c. omega arith) loop-again (λ c. c.before.loop.invariant.1) returns)

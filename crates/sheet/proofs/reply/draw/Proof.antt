@@ -5,8 +5,8 @@ use borrow.Author.Rules.{rules}
 use lib.ListN.{length, take, length-replicate}
 use lib.IntN.{pos}
 use Rattle.distr.proofs.Writing.{take-replicate}
-use Rattle.sheet.proofs.Answers.{prefix-length, skipped-drawn}
-use Rattle.sheet.proofs.Residues.{drawn-fields}
+use Rattle.sheet.proofs.Answers.{prefix_length, skipped-drawn}
+use Rattle.sheet.proofs.Residues.{drawn_fields}
 use Rattle.sheet.proofs.reply.draw.Statement.{statement}
 use Rattle.sheet.proofs.reply.draw.Tie as tie
 
@@ -15,7 +15,7 @@ sized : (c : tie.After-coefficients-room) → let n = c.before.before.before.bef
     n ≡ length (take n c.coefficients-room.result)
 sized c =
     let start = c.before.before.before.before in
-    prefix-length start.args.f.n c.coefficients-room.result
+    prefix_length start.args.f.n c.coefficients-room.result
     (omega (arith, start.requires.0, ap length c.coefficients-room.ensures, length-replicate 4096 (pos 0)))
 
 copy-patterns-requires : tie.Need-copy-patterns-requires
@@ -34,11 +34,11 @@ returns c =
     let f = start.args.f in
     let ws = start.args.words.now in
     let zeros = ap (take f.n) room.coefficients-room.ensures ∙ take-replicate f.n 4096 (pos 0) start.requires.0 in
-    let same = drawn-fields f ws start.requires.1 drawn.draw-question.result copied.copy-patterns.ensures drawn.draw-question.ensures.0 zeros in
+    let same = drawn_fields f ws start.requires.1 drawn.draw-question.result copied.copy-patterns.ensures drawn.draw-question.ensures.0 zeros in
     (same, skipped-drawn f ws drawn.draw-question.result _ same (sym (sized room)) drawn.draw-question.ensures.1)
 
-pub draw-spec : {M : Type 1} → statement M
-draw-spec =
+pub draw_spec : {M : Type 1} → statement M
+draw_spec =
     tie.close
     (tie.spec (λ c. search rules) (λ c κs. search rules) (λ c. search rules) (λ c. sized c.before) (λ c κs. search rules) copy-patterns-requires
     (λ c. search rules) returns)

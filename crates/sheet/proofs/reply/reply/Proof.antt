@@ -4,7 +4,7 @@ use native.Mathlib.Omega.{arith}
 use borrow.Author.Rules.{rules}
 use lib.ListN.{length, take}
 use Rattle.sheet.proofs.Placing.{written_same, written-length}
-use Rattle.sheet.proofs.Answers.{refused-text, success-written, prefix-length}
+use Rattle.sheet.proofs.Answers.{refused-text, success-written, prefix_length}
 use Rattle.sheet.proofs.reply.reply.Statement.{statement}
 use Rattle.sheet.proofs.reply.reply.Tie as tie
 
@@ -12,7 +12,7 @@ use Rattle.sheet.proofs.reply.reply.Tie as tie
 sized : (c : tie.After-values-room) → let n = c.before.before.before.before.args.f.n in n ≡ length (take n c.values-room.result)
 sized c =
     let start = c.before.before.before.before in
-    prefix-length start.args.f.n c.values-room.result
+    prefix_length start.args.f.n c.values-room.result
     (omega (arith, start.requires.1, c.values-room.ensures))
 
 draw-requires : tie.Need-draw-requires
@@ -59,8 +59,8 @@ returns-2 c =
     (omega (arith, test.before.before.values.given, sized room)) drawn.draw.ensures.1 success.write-success.ensures.0
     third.write-skipped.ensures
 
-pub reply-spec : {M : Type 1} → statement M
-reply-spec =
+pub reply_spec : {M : Type 1} → statement M
+reply_spec =
     tie.close
     (tie.spec (λ c. search rules) (λ c κs. search rules) (λ c. search rules) (λ c. sized c.before) draw-requires (λ c κs. search rules)
     (λ c. search rules) returns write-success-requires write-skipped-requires (λ c. search rules) returns-2)

@@ -5,8 +5,8 @@ use native.Mathlib.Omega.{arith}
 use borrow.Fn.Kinds.{In}
 use borrow.Fn.PlainCycle.{Measures, is, falls, and}
 use lib.ListN.{length-set}
-use Rattle.decimal.specs.Decimal.{lastDigit}
-use Rattle.decimal.proofs.Digits.{decimal-small, decimal-more, small-length, more-length}
+use Rattle.decimal.specs.Decimal.{last_digit}
+use Rattle.decimal.proofs.Digits.{decimal-small, decimal_more, small-length, more_length}
 use Rattle.sheet.proofs.Placing.{written_byte, written_then, written-length}
 use Rattle.sheet.proofs.text.write_number.Reads as own
 use Rattle.sheet.proofs.text.write_number.Kinds as kinds
@@ -33,21 +33,21 @@ returns t c =
     rw (decimal-small a.value c.if1.true) (written_byte a.text.now a.at (48 + a.value) (slice-write-text t c))
 
 write-number-requires : (t : ℕ) → lts.Need-write-number-requires (below t, own.Post) (at-measure t) own.Post
-write-number-requires t c κs = (omega arith, omega (arith, more-length c.before.before.before.args.value c.before.if1.false))
+write-number-requires t c κs = (omega arith, omega (arith, more_length c.before.before.before.args.value c.before.if1.false))
 
 slice-write-text-2 : (t : ℕ) → lts.Need-slice-write-text-2 (below t, own.Post) (at-measure t) own.Post
 slice-write-text-2 t c =
     let test = c.before.before.before.before in
     let called = c.before.before.write-number.ensures in
-    omega (arith, called.place, written-length called, more-length test.before.before.args.value test.if1.false)
+    omega (arith, called.place, written-length called, more_length test.before.before.args.value test.if1.false)
 
 returns-2 : (t : ℕ) → lts.Need-returns-2 (below t, own.Post) (at-measure t) own.Post
 returns-2 t c =
     let test = c.before.before.before.before in
     let value = test.before.before.args.value in
     let called = c.before.before.write-number in
-    rw (decimal-more value test.if1.false)
-    (written_then called.ensures (written_byte called.new.0 called.result (lastDigit value) (slice-write-text-2 t c)))
+    rw (decimal_more value test.if1.false)
+    (written_then called.ensures (written_byte called.new.0 called.result (last_digit value) (slice-write-text-2 t c)))
 
 pub +write-number-spec : {M : Type 1} → statement M
 +write-number-spec =

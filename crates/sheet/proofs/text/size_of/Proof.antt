@@ -2,12 +2,12 @@
 use native.Mathlib.Omega.{arith}
 use borrow.Author.Rules.{rules}
 use Rattle.little_endian.specs.Patterns.{value_of}
-use Rattle.sheet.proofs.Patterns.{minus-above}
+use Rattle.sheet.proofs.Patterns.{minus_above}
 use Rattle.sheet.proofs.text.size_of.Statement.{statement}
 use Rattle.sheet.proofs.text.size_of.Tie as tie
 
 add-result : tie.Need-overflow-add-result
-add-result c = omega (arith, minus-above c.before.args.signed c.before.args.bits c.if1.true)
+add-result c = omega (arith, minus_above c.before.args.signed c.before.args.bits c.if1.true)
 
 returns : tie.Need-returns
 unfolding value_of
@@ -17,5 +17,5 @@ returns-2 : tie.Need-returns-2
 unfolding value_of
 returns-2 c = rw c.if1.false
 
-pub size-of-spec : {M : Type 1} → statement M
-size-of-spec = tie.close (tie.spec (λ c. search rules) add-result returns returns-2)
+pub size_of_spec : {M : Type 1} → statement M
+size_of_spec = tie.close (tie.spec (λ c. search rules) add-result returns returns-2)

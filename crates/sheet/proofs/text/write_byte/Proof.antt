@@ -18,5 +18,5 @@ returns-2 c =
     let a = c.before.args in
     rw c.if1.false (written_none a.text.now a.at (omega (arith, rw c.if1.false at c.before.requires)))
 
-pub write-byte-spec : {M : Type 1} → statement M
-write-byte-spec = tie.close (tie.spec slice-write-text (λ c. search rules) (λ c. search rules) returns returns-2)
+pub write_byte_spec : {M : Type 1} → statement M
+write_byte_spec = tie.close (tie.spec slice-write-text (λ c. search rules) (λ c. search rules) returns returns-2)

@@ -5,21 +5,21 @@ use borrow.Author.Rules.{rules}
 use lib.ListN.{length}
 use Rattle.decimal.specs.Decimal.{decimal}
 use Rattle.sheet.proofs.Placing.{written_then, written-length}
-use Rattle.sheet.proofs.Lines.{value-text, item-length}
+use Rattle.sheet.proofs.Lines.{value-text, item_length}
 use Rattle.sheet.proofs.text.write_item.Statement.{statement}
 use Rattle.sheet.proofs.text.write_item.Tie as tie
 
 write-byte-requires : tie.Need-write-byte-requires
 write-byte-requires c κs =
     let start = c.before.before in
-    omega (arith, start.requires, item-length start.args.later start.args.signed start.args.bits)
+    omega (arith, start.requires, item_length start.args.later start.args.signed start.args.bits)
 
 write-byte-requires-2 : tie.Need-write-byte-requires-2
 write-byte-requires-2 c κs =
     let space = c.before.before.before in
     let start = space.before.before.before in
     let w = space.write_byte.ensures in
-    omega (arith, start.requires, item-length start.args.later start.args.signed start.args.bits, w.place, written-length w)
+    omega (arith, start.requires, item_length start.args.later start.args.signed start.args.bits, w.place, written-length w)
 
 write-number-requires : tie.Need-write-number-requires
 write-number-requires c κs =
@@ -30,7 +30,7 @@ write-number-requires c κs =
     omega (
       arith,
       start.requires,
-      item-length start.args.later start.args.signed start.args.bits,
+      item_length start.args.later start.args.signed start.args.bits,
       space.write_byte.ensures.place,
       sign.write-byte2.ensures.place,
       written-length w,
@@ -47,6 +47,6 @@ returns c =
     (written_then space.write_byte.ensures
     (written_then sign.write-byte2.ensures (rw size.type_size.ensures at c.before.before.write-number.ensures)))
 
-pub write-item-spec : {M : Type 1} → statement M
-write-item-spec =
+pub write_item_spec : {M : Type 1} → statement M
+write_item_spec =
     tie.close (tie.spec write-byte-requires write-byte-requires-2 (λ c κs. search rules) write-number-requires (λ c. search rules) returns)

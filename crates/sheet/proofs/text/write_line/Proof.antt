@@ -5,8 +5,8 @@ use native.Mathlib.Omega.{arith}
 use lib.ListN.{length, length-set}
 use Rattle.sheet.specs.Text.{line}
 use Rattle.little_endian.specs.Patterns.{values_of}
-use Rattle.sheet.proofs.Placing.{written_byte, written-length, Writing, writing-none, writing-room, writing_more, writing-done}
-use Rattle.sheet.proofs.Lines.{rest, rest_more, rest-none, item_room, line-length}
+use Rattle.sheet.proofs.Placing.{written_byte, written-length, Writing, writing_none, writing_room, writing_more, writing_done}
+use Rattle.sheet.proofs.Lines.{rest, rest_more, rest_none, item_room, line-length}
 use Rattle.sheet.proofs.text.write_line.Statement.{statement}
 use Rattle.sheet.proofs.text.write_line.Tie as tie
 
@@ -23,7 +23,7 @@ room : (c : tie.At-loop invariant-loop decreases-loop) → let a = c.before.befo
 room c =
     let start = c.before.before.before in
     let a = start.args in
-    writing-room a.text.now a.at (line (values_of a.signed a.values.now)) c.loop.invariant
+    writing_room a.text.now a.at (line (values_of a.signed a.values.now)) c.loop.invariant
     (omega (arith, start.requires, line-length a.signed a.values.now (λ i. (c.before.shared-slice-known.given i).fits)))
 
 write-item-requires : tie.Need-write-item-requires invariant-loop decreases-loop
@@ -42,21 +42,21 @@ loop-again c =
 slice-write-text : tie.Need-slice-write-text invariant-loop decreases-loop
 slice-write-text c =
     let a = c.before.before.before.before.args in
-    omega (arith, room c.before, ap length (rest-none a.signed a.values.now c.before.loop.i c.loop-test.false))
+    omega (arith, room c.before, ap length (rest_none a.signed a.values.now c.before.loop.i c.loop-test.false))
 
 returns : tie.Need-returns invariant-loop decreases-loop
 returns c =
     let start = c.before.before.before.before in
     let a = start.args in
     let inv = c.before.loop.invariant in
-    let left = rest-none a.signed a.values.now c.before.loop.i c.loop-test.false in
-    let whole = writing-done _ _ _ inv left (written_byte c.before.loop.text c.before.loop.end 10 (slice-write-text c)) in
+    let left = rest_none a.signed a.values.now c.before.loop.i c.loop-test.false in
+    let whole = writing_done _ _ _ inv left (written_byte c.before.loop.text c.before.loop.end 10 (slice-write-text c)) in
     (whole, omega (arith, whole.place, line-length a.signed a.values.now (λ i. (c.before.before.shared-slice-known.given i).fits)))
 
-pub write-line-spec : {M : Type 1} → statement M
-write-line-spec =
+pub write_line_spec : {M : Type 1} → statement M
+write_line_spec =
     tie.close
-    (tie.spec invariant-loop decreases-loop (λ c. writing-none _ _ _ (omega arith)) (λ c. omega arith) (λ c. c.before.before.loop-test.true)
+    (tie.spec invariant-loop decreases-loop (λ c. writing_none _ _ _ (omega arith)) (λ c. omega arith) (λ c. c.before.before.loop-test.true)
     write-item-requires (λ c. omega arith) (λ c. omega arith) loop-again slice-write-text
     (λ c. omega (arith, slice-write-text c, written-length c.before.loop.invariant.done))
     (λ c. simp length-set (written-length c.before.loop.invariant.done)) returns)

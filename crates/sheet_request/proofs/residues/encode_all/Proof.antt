@@ -48,8 +48,8 @@ returns c =
     let end : turn.i ≡ length a.output.now = omega arith in
     turn.invariant.2 ∙ ap (λ (i : ℕ). written all i a.output.now) end ∙ written_all all a.output.now (length-map a.output.now _)
 
-pub encode-all-spec : {M : Type 1} → statement M
-encode-all-spec =
+pub encode_all_spec : {M : Type 1} → statement M
+encode_all_spec =
     tie.close
     (tie.spec invariant-loop decreases-loop loop-holds (λ c. omega arith) (λ c. omega arith) (λ c κs. search rules) (λ c. omega arith) (λ c. omega arith)
     (λ c. omega arith) (λ c. omega arith) loop-again same_length returns)

@@ -24,5 +24,5 @@ returns-3 c =
     to_z_pos w64 (omega arith)
     ∙ ap pos (minus at.args.modulus at.args.c at.ranges.c c.before.before.if1.false c.before.magnitude.ensures)
 
-pub residue-spec : {M : Type 1} → statement M
-residue-spec = tie.close (tie.spec returns (λ c κs. search rules) returns-2 (λ c. search rules) returns-3)
+pub residue_spec : {M : Type 1} → statement M
+residue_spec = tie.close (tie.spec returns (λ c κs. search rules) returns-2 (λ c. search rules) returns-3)

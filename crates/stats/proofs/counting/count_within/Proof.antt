@@ -2,7 +2,7 @@
 use Rattle.std.proofs.Common.{◌+◌, ◌-◌, ◌<◌, ◌≤◌, get_or, arith}
 use Rattle.stats.proofs.Below.{below_at}
 use Rattle.stats.proofs.Centering.{within_all}
-use Rattle.stats.proofs.Within.{Counted, counted_none, counted-more, counted-all}
+use Rattle.stats.proofs.Within.{Counted, counted_none, counted_more, counted-all}
 use Rattle.stats.proofs.counting.count_within.Statement.{statement}
 use Rattle.stats.proofs.counting.count_within.Tie as tie
 
@@ -40,7 +40,7 @@ counted c =
     let test = c.before.before.before in
     let start = test.before.before.before.before in
     let a = start.args in
-    counted-more a.residues.now a.modulus a.limit start.requires.2 (omega arith) test.before.loop.invariant.1 test.loop-test.true
+    counted_more a.residues.now a.modulus a.limit start.requires.2 (omega arith) test.before.loop.invariant.1 test.loop-test.true
     c.before.at_most.ensures c.at-most2.ensures
 
 returns-2 : tie.Need-returns-2 invariant-loop decreases-loop
@@ -48,8 +48,8 @@ returns-2 c =
     let a = c.before.before.before.before.args in
     counted-all a.residues.now a.modulus a.limit c.before.loop.invariant.1 c.loop-test.false
 
-pub count-within-spec : {M : Type 1} → statement M
-count-within-spec =
+pub count_within_spec : {M : Type 1} → statement M
+count_within_spec =
     tie.close
     (tie.spec invariant-loop decreases-loop returns (λ c. omega arith) (λ c. (omega arith, counted_none _ _ _)) (λ c. omega arith) (λ c. omega arith) at-most-requires
     at-most-requires-2 (λ c. omega (arith, counted c)) (λ c. omega (arith, counted c)) (λ c. omega arith) (λ c. omega arith)

@@ -26,7 +26,7 @@ returns c =
     let a = c.before.before.args in
     c.before.loop.invariant.1 ∙ ap (all_below a.modulus) (take_all c.before.loop.i a.residues.now (omega arith))
 
-pub all-below-spec : {M : Type 1} → statement M
-all-below-spec =
+pub all_below_spec : {M : Type 1} → statement M
+all_below_spec =
     tie.close
     (tie.spec invariant-loop decreases-loop loop-holds (λ c. omega arith) (λ c. omega arith) (λ c. omega arith) (λ c. omega arith) loop-again returns)

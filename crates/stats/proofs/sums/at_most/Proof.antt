@@ -7,5 +7,5 @@ use Rattle.stats.proofs.sums.at_most.Tie as tie
 returns : tie.Need-returns
 returns c = top_bit c.args.a c.args.b c.requires.0 c.requires.1
 
-pub at-most-spec : {M : Type 1} → statement M
-at-most-spec = tie.close (tie.spec (λ c. search rules) (λ c. search rules) returns)
+pub at_most_spec : {M : Type 1} → statement M
+at_most_spec = tie.close (tie.spec (λ c. search rules) (λ c. search rules) returns)

@@ -1,21 +1,21 @@
 -- `sums::block_squares` adds the three sums of products, each at its power of two.
 use Rattle.std.proofs.Common.{◌+◌, ◌∙◌, ap₂, arith, rules}
-use Rattle.stats.proofs.Blocks.{halves-fit}
+use Rattle.stats.proofs.Blocks.{halves_fit}
 use Rattle.stats.proofs.sums.block_squares.Statement.{statement}
 use Rattle.stats.proofs.sums.block_squares.Tie as tie
 
 add-requires : tie.Need-add-requires
 add-requires c κs =
     let first = c.before in (
-      halves-fit first.scaled.result first.scaled.ensures (omega (arith, first.before.well-formed)),
-      halves-fit c.scaled2.result c.scaled2.ensures (omega (arith, first.before.well-formed)),
+      halves_fit first.scaled.result first.scaled.ensures (omega (arith, first.before.well_formed)),
+      halves_fit c.scaled2.result c.scaled2.ensures (omega (arith, first.before.well_formed)),
     )
 
 add-requires-2 : tie.Need-add-requires-2
 add-requires-2 c κs =
     let first = c.before.before in
     let value = c.add.ensures ∙ ap₂ (λ a b. a + b) first.scaled.ensures c.before.scaled2.ensures in
-    (halves-fit c.add.result value (omega (arith, first.before.well-formed)), omega arith)
+    (halves_fit c.add.result value (omega (arith, first.before.well_formed)), omega arith)
 
-pub block-squares-spec : {M : Type 1} → statement M
-block-squares-spec = tie.close (tie.spec (λ c κs. search rules) (λ c κs. search rules) add-requires add-requires-2 (λ c. search rules))
+pub block_squares_spec : {M : Type 1} → statement M
+block_squares_spec = tie.close (tie.spec (λ c κs. search rules) (λ c κs. search rules) add-requires add-requires-2 (λ c. search rules))

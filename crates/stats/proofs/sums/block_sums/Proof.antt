@@ -1,7 +1,7 @@
 -- `sums::block_sums` adds up what each residue of the block gives: after i turns the first i are summed. At most 1,024 residues fit.
 use Rattle.std.proofs.Common.{◌-◌, ◌<◌, ◌≤◌, get_or, arith}
 use Rattle.stats.proofs.Below.{below_at}
-use Rattle.stats.proofs.Blocks.{Small, Summed, summed-none, summed-more, summed-all, summed-small, residue-small}
+use Rattle.stats.proofs.Blocks.{Small, Summed, summed_none, summed_more, summed_all, summed_small, residue_small}
 use Rattle.stats.proofs.sums.block_sums.Statement.{statement}
 use Rattle.stats.proofs.sums.block_sums.Tie as tie
 
@@ -32,8 +32,8 @@ small c =
     let start = test.before.before.before in
     let a = start.args in
     let inv = test.before.loop.invariant in (
-      summed-small a.modulus a.block.now start.requires.1 start.requires.2 inv.0 inv.1,
-      rw c.sums-of.ensures (residue-small a.modulus start.requires.1 _ (residue-below test)),
+      summed_small a.modulus a.block.now start.requires.1 start.requires.2 inv.0 inv.1,
+      rw c.sums-of.ensures (residue_small a.modulus start.requires.1 _ (residue-below test)),
     )
 
 add-residues : tie.Need-overflow-add-residues invariant-loop decreases-loop
@@ -55,13 +55,13 @@ loop-again : tie.Need-loop-preserved invariant-loop decreases-loop
 loop-again c =
     let call = c.before.before.before.before.before in
     let test = call.before.before in
-    (omega arith, summed-more _ _ test.loop-test.true test.before.loop.invariant.1 call.sums-of.ensures)
+    (omega arith, summed_more _ _ test.loop-test.true test.before.loop.invariant.1 call.sums-of.ensures)
 
 returns : tie.Need-returns invariant-loop decreases-loop
-returns c = summed-all _ _ c.loop-test.false c.before.loop.invariant.1
+returns c = summed_all _ _ c.loop-test.false c.before.loop.invariant.1
 
-pub block-sums-spec : {M : Type 1} → statement M
-block-sums-spec =
+pub block_sums_spec : {M : Type 1} → statement M
+block_sums_spec =
     tie.close
-    (tie.spec invariant-loop decreases-loop (λ c. (omega arith, summed-none _ _)) (λ c. omega arith) (λ c. omega arith) sums-of-requires add-residues add-negatives
+    (tie.spec invariant-loop decreases-loop (λ c. (omega arith, summed_none _ _)) (λ c. omega arith) (λ c. omega arith) sums-of-requires add-residues add-negatives
     add-upper add-cross add-lower (λ c. omega arith) (λ c. omega arith) loop-again returns)

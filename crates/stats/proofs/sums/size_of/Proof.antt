@@ -16,5 +16,5 @@ returns-2 c =
     let above = some-above a.modulus a.residue (λ e. c.if1.false (c.before.above_half.ensures ∙ e)) in
     sym (size-high a.modulus a.residue above start.requires.1)
 
-pub size-of-spec : {M : Type 1} → statement M
-size-of-spec = tie.close (tie.spec (λ c κs. search rules) returns (λ c. search rules) returns-2)
+pub size_of_spec : {M : Type 1} → statement M
+size_of_spec = tie.close (tie.spec (λ c κs. search rules) returns (λ c. search rules) returns-2)

@@ -2,7 +2,7 @@
 use Rattle.std.proofs.Common.{◌-◌, ◌≤◌, take, arith, length-take, take_all, rules}
 use Rattle.stats.specs.Sums.{TotalsOf}
 use Rattle.stats.proofs.Below.{below_parts, below-block}
-use Rattle.stats.proofs.Blocks.{totals-none, totals-more, totals-fit, block-moduli}
+use Rattle.stats.proofs.Blocks.{totals_none, totals_more, totals_fit, block-moduli}
 use Rattle.stats.proofs.sums.sum_residues.Statement.{statement}
 use Rattle.stats.proofs.sums.sum_residues.Tie as tie
 
@@ -13,7 +13,7 @@ abbrev decreases-loop : tie.decreases-loop
 decreases-loop residues modulus n totals₀ at₀ totals at = n - at
 
 loop-holds : tie.Need-loop-init invariant-loop decreases-loop
-loop-holds c = let e = c.no-totals.ensures in (omega arith, totals-none _ c.before.before.args.residues.now e.0 e.1 e.2)
+loop-holds c = let e = c.no-totals.ensures in (omega arith, totals_none _ c.before.before.args.residues.now e.0 e.1 e.2)
 
 block-sums-requires : tie.Need-block-sums-requires invariant-loop decreases-loop
 block-sums-requires c κs =
@@ -33,7 +33,7 @@ with-block-requires c κs =
     let loop = test.before.loop in
     let part = take loop.at a.residues.now in
     let below = (below_parts a.modulus loop.at a.residues.now start.requires.2).0 in (
-      totals-fit a.modulus part start.requires.1 below (simp length-take (omega arith)) loop.invariant.1,
+      totals_fit a.modulus part start.requires.1 below (simp length-take (omega arith)) loop.invariant.1,
       rw c.block-sums.ensures (block-moduli a.modulus _ asked.1 asked.2 asked.0),
     )
 
@@ -45,7 +45,7 @@ loop-again c =
     let a = test.before.before.before.before.args in
     let e = c.with-block.ensures in
     let end = call.before.before.block-end.result in
-    let more = totals-more a.modulus a.residues.now loop.at end (omega arith) loop.invariant.1 call.block-sums.ensures in
+    let more = totals_more a.modulus a.residues.now loop.at end (omega arith) loop.invariant.1 call.block-sums.ensures in
     (omega arith, more e.0 e.1.0 e.1.1)
 
 returns : tie.Need-returns invariant-loop decreases-loop
@@ -54,8 +54,8 @@ returns c =
     let a = c.before.before.before.before.args in
     rw (← take_all loop.at a.residues.now c.loop-test.false) loop.invariant.1
 
-pub sum-residues-spec : {M : Type 1} → statement M
-sum-residues-spec =
+pub sum_residues_spec : {M : Type 1} → statement M
+sum_residues_spec =
     tie.close
     (tie.spec invariant-loop decreases-loop (λ c κs. search rules) loop-holds (λ c κs. search rules) (λ c. search rules) (λ c. search rules) (λ c. search rules)
     (λ c. search rules) block-sums-requires with-block-requires (λ c. omega arith) loop-again returns)

@@ -15,7 +15,7 @@ returns c =
     let start = call.before in
     let x = start.args.x in
     let y = start.args.y in
-    carried x.high x.low y.high y.low (omega (arith, start.well-formed)) (omega (arith, start.well-formed)) call.wrapping-add-u64.result
+    carried x.high x.low y.high y.low (omega (arith, start.well_formed)) (omega (arith, start.well_formed)) call.wrapping-add-u64.result
     call.wrapping-add-u64.ensures
 
 pub add_spec : {M : Type 1} → statement M

@@ -1,7 +1,7 @@
 -- `wide::difference` subtracts the smaller number.
 use Rattle.std.proofs.Common.{sym, ◌∙◌, le_of_lt, rules, ltb-false, ltb-true}
 use Rattle.stats.specs.Sums.{value_of}
-use Rattle.stats.proofs.Integers.{size_less, size-more}
+use Rattle.stats.proofs.Integers.{size_less, size_more}
 use Rattle.stats.proofs.wide.difference.Statement.{statement}
 use Rattle.stats.proofs.wide.difference.Tie as tie
 
@@ -25,7 +25,7 @@ returns-2 : tie.Need-returns-2
 returns-2 c =
     let test = c.before in
     let a = test.before.before.args in
-    c.subtract2.ensures ∙ sym (size-more (value_of a.x) (value_of a.y) (ltb-false _ _ (sym test.before.is_below.ensures ∙ test.if1.false)))
+    c.subtract2.ensures ∙ sym (size_more (value_of a.x) (value_of a.y) (ltb-false _ _ (sym test.before.is_below.ensures ∙ test.if1.false)))
 
-pub difference-spec : {M : Type 1} → statement M
-difference-spec = tie.close (tie.spec (λ c κs. search rules) subtract-requires returns subtract-requires-2 returns-2)
+pub difference_spec : {M : Type 1} → statement M
+difference_spec = tie.close (tie.spec (λ c κs. search rules) subtract-requires returns subtract-requires-2 returns-2)

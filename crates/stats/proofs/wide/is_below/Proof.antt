@@ -9,7 +9,7 @@ returns c =
     let start = c.before.before.before.before.before.before in
     let x = start.args.x in
     let y = start.args.y in
-    below-halves x.high x.low y.high y.low (omega (arith, start.well-formed)) (omega (arith, start.well-formed))
+    below-halves x.high x.low y.high y.low (omega (arith, start.well_formed)) (omega (arith, start.well_formed))
 
-pub is-below-spec : {M : Type 1} → statement M
-is-below-spec = tie.close (tie.spec returns)
+pub is_below_spec : {M : Type 1} → statement M
+is_below_spec = tie.close (tie.spec returns)

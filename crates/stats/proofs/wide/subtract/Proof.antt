@@ -12,7 +12,7 @@ there c =
     let start = c.before.before.before.before.before in
     let x = start.args.x in
     let y = start.args.y in
-    borrows x.high x.low y.high y.low (omega (arith, start.well-formed)) (omega (arith, start.well-formed)) start.requires
+    borrows x.high x.low y.high y.low (omega (arith, start.well_formed)) (omega (arith, start.well_formed)) start.requires
 
 returns : tie.Need-returns
 returns c =
@@ -20,8 +20,8 @@ returns c =
     let start = call.before in
     let x = start.args.x in
     let y = start.args.y in
-    borrowed x.high x.low y.high y.low (omega (arith, start.well-formed)) (omega (arith, start.well-formed)) start.requires
+    borrowed x.high x.low y.high y.low (omega (arith, start.well_formed)) (omega (arith, start.well_formed)) start.requires
     call.wrapping-sub-u64.result (omega (arith, call.wrapping-sub-u64.type-inv)) call.wrapping-sub-u64.ensures
 
-pub subtract-spec : {M : Type 1} → statement M
-subtract-spec = tie.close (tie.spec (λ c κs. search rules) (λ c. search rules) (λ c. (there c).0) (λ c. (there c).1) returns)
+pub subtract_spec : {M : Type 1} → statement M
+subtract_spec = tie.close (tie.spec (λ c κs. search rules) (λ c. search rules) (λ c. (there c).0) (λ c. (there c).1) returns)

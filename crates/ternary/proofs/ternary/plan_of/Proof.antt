@@ -16,6 +16,6 @@ returns-3 : tie.Need-returns-3
 unfolding plan_of
 returns-3 c = rw c.before.ends3.given.1
 
-pub plan-of-spec : {M : Type 1} → statement M
-plan-of-spec =
+pub plan_of_spec : {M : Type 1} → statement M
+plan_of_spec =
     tie.close (tie.spec (λ c. search rules) (λ c. search rules) (λ c. search rules) returns returns-2 returns-3)

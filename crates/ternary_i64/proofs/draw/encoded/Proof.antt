@@ -14,6 +14,6 @@ returns-2 c = rw c.enum-told2.given.1 refl
 returns-3 : tie.Need-returns-3
 returns-3 c = rw c.enum-told3.given.1 refl
 
-pub encoded-spec : {M : Type 1} → statement M
-encoded-spec =
+pub encoded_spec : {M : Type 1} → statement M
+encoded_spec =
     tie.close (tie.spec (λ c. search rules) (λ c κs. search rules) (λ c. search rules) (λ c. search rules) returns returns-2 returns-3)

@@ -4,9 +4,9 @@ use lib.ListN.{length, replicate}
 use mir.Facts.{to_z-of_z}
 use borrow.Author.Rules.{rules, sfits_of}
 use borrow.Author.Tests.{not-true, not-false}
-use Rattle.distr.proofs.Writing.{map-id}
-use Rattle.numbers.proofs.WideDraws.{answer-reports}
-use Rattle.ternary.proofs.Plans.{plan-enough, plan-cleared, plan-refused, plan-constant, plan-read, sampler-skips}
+use Rattle.distr.proofs.Writing.{map_id}
+use Rattle.numbers.proofs.WideDraws.{answer_reports}
+use Rattle.ternary.proofs.Plans.{plan_enough, plan_cleared, plan_refused, plan_constant, plan_read, sampler_skips}
 use Rattle.ternary_i64.proofs.draw.sample_to.Statement.{statement}
 use Rattle.ternary_i64.proofs.draw.sample_to.Tie as tie
 
@@ -14,18 +14,18 @@ returns : tie.Need-returns
 returns c =
     let told = c.before.before.before.before.before in
     let a = told.before.before.before.args in (
-      plan-cleared (λ cs. cs) (λ x. x) (λ cs. sym (map-id cs)) a.words.now a.place a.output.now _ told.before.plan-of.ensures
+      plan_cleared (λ cs. cs) (λ x. x) (λ cs. sym (map_id cs)) a.words.now a.place a.output.now _ told.before.plan-of.ensures
           told.answer-of.ensures c.before.before.before.if1.true c.before.clear.ensures,
-      answer-reports _ _ _ _ _ told.answer-of.ensures (sampler-skips _ _ _),
+      answer_reports _ _ _ _ _ told.answer-of.ensures (sampler_skips _ _ _),
     )
 
 returns-2 : tie.Need-returns-2
 returns-2 c =
     let told = c.before.before.before.before in
     let a = told.before.before.before.args in (
-      plan-refused (λ cs. cs) (λ x. x) (λ cs. sym (map-id cs)) a.words.now a.place a.output.now _ told.before.plan-of.ensures
+      plan_refused (λ cs. cs) (λ x. x) (λ cs. sym (map_id cs)) a.words.now a.place a.output.now _ told.before.plan-of.ensures
           told.answer-of.ensures c.before.before.if1.false c.if2.true refl,
-      answer-reports _ _ _ _ _ told.answer-of.ensures (sampler-skips _ _ _),
+      answer_reports _ _ _ _ _ told.answer-of.ensures (sampler_skips _ _ _),
     )
 
 returns-3 : tie.Need-returns-3
@@ -35,10 +35,10 @@ returns-3 c =
     let good = constant.before.before in
     let told = good.before.before.before.before in
     let a = told.before.before.before.args in (
-      plan-constant (λ cs. cs) (λ x. x) (λ cs. sym (map-id cs)) a.words.now a.place a.output.now _ told.before.plan-of.ensures
+      plan_constant (λ cs. cs) (λ x. x) (λ cs. sym (map_id cs)) a.words.now a.place a.output.now _ told.before.plan-of.ensures
           told.answer-of.ensures good.if2.false (not-true told.before.plan-of.result.reads constant.if3.true)
           (c.before.fill.ensures ∙ ap (replicate (length a.output.now)) (to_z-of_z (sfits_of value.encoded.type-inv) ∙ value.encoded.ensures)),
-      answer-reports _ _ _ _ _ told.answer-of.ensures (sampler-skips _ _ _),
+      answer_reports _ _ _ _ _ told.answer-of.ensures (sampler_skips _ _ _),
     )
 
 fill-requires-2 : tie.Need-fill-requires-2
@@ -47,7 +47,7 @@ fill-requires-2 c κs =
     let good = reading.before.before in
     let told = good.before.before.before.before in
     let a = told.before.before.before.args in
-    plan-enough (λ cs. cs) (λ x. x) (λ cs. sym (map-id cs)) a.words.now a.place a.output.now a.ends told.before.plan-of.ensures
+    plan_enough (λ cs. cs) (λ x. x) (λ cs. sym (map_id cs)) a.words.now a.place a.output.now a.ends told.before.plan-of.ensures
     told.answer-of.ensures good.if2.false (not-false told.before.plan-of.result.reads reading.if3.false)
 
 returns-4 : tie.Need-returns-4
@@ -57,14 +57,14 @@ returns-4 c =
     let told = good.before.before.before.before in
     let start = told.before.before in
     let a = start.before.args in (
-      plan-read (λ cs. cs) (λ x. x) (λ cs. sym (map-id cs)) a.words.now a.place a.output.now _ told.before.plan-of.ensures
+      plan_read (λ cs. cs) (λ x. x) (λ cs. sym (map_id cs)) a.words.now a.place a.output.now _ told.before.plan-of.ensures
           told.answer-of.ensures good.if2.false (not-false told.before.plan-of.result.reads reading.if3.false)
           (λ i. (start.shared-slice-known.given i).fits) c.before.fill2.ensures,
-      answer-reports _ _ _ _ _ told.answer-of.ensures (sampler-skips _ _ _),
+      answer_reports _ _ _ _ _ told.answer-of.ensures (sampler_skips _ _ _),
     )
 
-pub sample-to-spec : {M : Type 1} → statement M
-sample-to-spec =
+pub sample_to_spec : {M : Type 1} → statement M
+sample_to_spec =
     tie.close
     (tie.spec (λ c κs. search rules) (λ c κs. search rules) (λ c κs. search rules) (λ c. search rules) returns returns-2 (λ c κs. search rules)
     (λ c κs. search rules) (λ c. search rules) returns-3 fill-requires-2 (λ c. search rules) returns-4)

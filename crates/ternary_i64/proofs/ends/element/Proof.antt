@@ -36,8 +36,8 @@ returns-2 c =
     signed : {n : ℕ} → n < 2 ^ 33 → to_z w64 n ≡ pos n
     signed h = to_z_pos w64 (omega arith)
 
-pub element-spec : {M : Type 1} → statement M
-element-spec =
+pub element_spec : {M : Type 1} → statement M
+element_spec =
     tie.close
     (tie.spec (λ c. search rules) (λ c. search rules) (λ c. search rules) (λ c. search rules) (λ c. search rules) (λ c κs. search rules)
     (λ c κs. search rules) (λ c. search rules) (λ c. search rules) add-result cast-result-3 returns returns-2)

@@ -6,19 +6,19 @@ use native.Mathlib.Omega.{arith}
 use lib.ListN.{length-set}
 use mir.Facts.{to_z-of_z}
 use borrow.Author.Rules.{sfits_of}
-use Rattle.numbers.proofs.WideStores.{Stored, stored-none, stored-four, left-enough, stored-rest}
-use Rattle.ternary.specs.Sampler.{planValue}
+use Rattle.numbers.proofs.WideStores.{Stored, stored_none, stored_four, left_enough, stored-rest}
+use Rattle.ternary.specs.Sampler.{plan_value}
 use Rattle.ternary_i64.proofs.ends.fill.Statement.{statement}
 use Rattle.ternary_i64.proofs.ends.fill.Tie as tie
 
 abbrev invariant-loop : tie.invariant-loop
-invariant-loop output₀ encoding plan words place n end i₀ at₀ output i at = (at ≡ place + 2 * i) × (i % 4 ≡ 0) × Stored (planValue plan) words place output₀ i output
+invariant-loop output₀ encoding plan words place n end i₀ at₀ output i at = (at ≡ place + 2 * i) × (i % 4 ≡ 0) × Stored (plan_value plan) words place output₀ i output
 
 abbrev decreases-loop : tie.decreases-loop
 decreases-loop output₀ encoding plan words place n end i₀ at₀ output i at = n - i
 
 loop-holds : tie.Need-loop-init invariant-loop decreases-loop
-loop-holds c = (omega arith, omega arith, stored-none _ _ _ _)
+loop-holds c = (omega arith, omega arith, stored_none _ _ _ _)
 
 loop-again : tie.Need-loop-preserved invariant-loop decreases-loop
 loop-again c =
@@ -28,7 +28,7 @@ loop-again c =
     let turn = first.before.before.loop in (
       omega arith,
       omega arith,
-      stored-four _ _ _ _ turn.invariant.2 (omega arith) turn.invariant.0 (to_z-of_z (sfits_of first.element.type-inv) ∙ first.element.ensures)
+      stored_four _ _ _ _ turn.invariant.2 (omega arith) turn.invariant.0 (to_z-of_z (sfits_of first.element.type-inv) ∙ first.element.ensures)
           (to_z-of_z (sfits_of second.element2.type-inv) ∙ second.element2.ensures) (to_z-of_z (sfits_of third.element3.type-inv) ∙ third.element3.ensures)
           (to_z-of_z (sfits_of c.element4.type-inv) ∙ c.element4.ensures),
     )
@@ -36,7 +36,7 @@ loop-again c =
 fill-rest-requires : tie.Need-fill-rest-requires invariant-loop decreases-loop
 fill-rest-requires c κs =
     let at-loop = c.before.before in
-    left-enough _ _ _ _ at-loop.loop.invariant.2 at-loop.loop.invariant.0 at-loop.before.before.requires
+    left_enough _ _ _ _ at-loop.loop.invariant.2 at-loop.loop.invariant.0 at-loop.before.before.requires
 
 same_length : tie.Need-same-length invariant-loop decreases-loop
 same_length c = let at-loop = c.before.before.before.before in c.output.given.1 ∙ at-loop.loop.invariant.2.same_length

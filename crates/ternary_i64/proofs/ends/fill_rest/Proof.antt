@@ -4,19 +4,19 @@ use Prim.Native.Nat.{◌+◌, ◌*◌, ◌-◌}
 use native.Mathlib.Omega.{arith}
 use mir.Facts.{to_z-of_z}
 use borrow.Author.Rules.{sfits_of}
-use Rattle.numbers.proofs.WideStores.{Stored, stored-none, stored_more, stored-all}
-use Rattle.ternary.specs.Sampler.{planValue}
+use Rattle.numbers.proofs.WideStores.{Stored, stored_none, stored_more, stored-all}
+use Rattle.ternary.specs.Sampler.{plan_value}
 use Rattle.ternary_i64.proofs.ends.fill_rest.Statement.{statement}
 use Rattle.ternary_i64.proofs.ends.fill_rest.Tie as tie
 
 abbrev invariant-loop : tie.invariant-loop
-invariant-loop output₀ encoding plan words place n i₀ at₀ output i at = (at ≡ place + 2 * i) × Stored (planValue plan) words place output₀ i output
+invariant-loop output₀ encoding plan words place n i₀ at₀ output i at = (at ≡ place + 2 * i) × Stored (plan_value plan) words place output₀ i output
 
 abbrev decreases-loop : tie.decreases-loop
 decreases-loop output₀ encoding plan words place n i₀ at₀ output i at = n - i
 
 loop-holds : tie.Need-loop-init invariant-loop decreases-loop
-loop-holds c = (omega arith, stored-none _ _ _ _)
+loop-holds c = (omega arith, stored_none _ _ _ _)
 
 loop-again : tie.Need-loop-preserved invariant-loop decreases-loop
 loop-again c =
@@ -28,8 +28,8 @@ loop-again c =
 returns : tie.Need-returns invariant-loop decreases-loop
 returns c = stored-all _ _ _ _ c.before.loop.invariant.1 (omega arith) c.before.before.before.requires
 
-pub fill-rest-spec : {M : Type 1} → statement M
-fill-rest-spec =
+pub fill_rest_spec : {M : Type 1} → statement M
+fill_rest_spec =
     tie.close
     (tie.spec invariant-loop decreases-loop loop-holds (λ c κs. omega arith) (λ c. omega arith) (λ c. omega arith) (λ c. omega arith) (λ c. omega arith)
     (λ c. omega arith) loop-again (λ c. c.before.loop.invariant.1.same_length) returns)

@@ -6,7 +6,7 @@ use Rattle.ternary_u64.proofs.draw.encoded.Tie as tie
 returns : tie.Need-returns
 returns c = rw c.before.enum_told.given.1 c.minus_one.ensures
 
-pub encoded-spec : {M : Type 1} → statement M
-encoded-spec =
+pub encoded_spec : {M : Type 1} → statement M
+encoded_spec =
     tie.close
     (tie.spec (λ c. search rules) (λ c κs. search rules) (λ c. search rules) (λ c. search rules) returns (λ c. search rules) (λ c. search rules))

@@ -3,9 +3,9 @@ use mathlib.Core.Path.{refl, ap, ◌∙◌}
 use lib.ListN.{length, replicate}
 use borrow.Author.Rules.{rules}
 use borrow.Author.Tests.{not-true, not-false}
-use Rattle.output_u64.specs.Out.{heldOne, held}
-use Rattle.numbers.proofs.WideDraws.{answer-reports}
-use Rattle.ternary.proofs.Plans.{plan-enough, plan-cleared, plan-refused, plan-constant, plan-read, sampler-skips}
+use Rattle.output_u64.specs.Out.{held_one, held}
+use Rattle.numbers.proofs.WideDraws.{answer_reports}
+use Rattle.ternary.proofs.Plans.{plan_enough, plan_cleared, plan_refused, plan_constant, plan_read, sampler_skips}
 use Rattle.ternary_u64.proofs.draw.sample_to.Statement.{statement}
 use Rattle.ternary_u64.proofs.draw.sample_to.Tie as tie
 
@@ -14,20 +14,20 @@ returns c =
     let if1 = c.before.before.before.before.if1 in
     let told = c.before.before.before.before.before.before in
     let a = told.before.before.before.before.args in (
-      plan-cleared (held a.encoding) (heldOne a.encoding) (λ cs. refl) a.words.now a.place a.output.now _
+      plan_cleared (held a.encoding) (held_one a.encoding) (λ cs. refl) a.words.now a.place a.output.now _
           told.before.plan-of.ensures told.answer-of.ensures
           if1.true c.before.before.clear.ensures,
-      answer-reports _ _ _ _ _ told.answer-of.ensures (sampler-skips _ _ _),
+      answer_reports _ _ _ _ _ told.answer-of.ensures (sampler_skips _ _ _),
     )
 
 returns-2 : tie.Need-returns-2
 returns-2 c =
     let told = c.before.before.before.before in
     let a = told.before.before.before.before.args in (
-      plan-refused (held a.encoding) (heldOne a.encoding) (λ cs. refl) a.words.now a.place a.output.now _
+      plan_refused (held a.encoding) (held_one a.encoding) (λ cs. refl) a.words.now a.place a.output.now _
           told.before.plan-of.ensures told.answer-of.ensures
           c.before.before.if1.false c.if2.true refl,
-      answer-reports _ _ _ _ _ told.answer-of.ensures (sampler-skips _ _ _),
+      answer_reports _ _ _ _ _ told.answer-of.ensures (sampler_skips _ _ _),
     )
 
 returns-3 : tie.Need-returns-3
@@ -37,12 +37,12 @@ returns-3 c =
     let good = constant.before.before in
     let told = good.before.before.before.before in
     let a = told.before.before.before.before.args in (
-      plan-constant (held a.encoding) (heldOne a.encoding) (λ cs. refl) a.words.now a.place a.output.now _
+      plan_constant (held a.encoding) (held_one a.encoding) (λ cs. refl) a.words.now a.place a.output.now _
           told.before.plan-of.ensures told.answer-of.ensures
           good.if2.false (not-true told.before.plan-of.result.reads
           constant.if3.true)
           (c.before.before.fill.ensures ∙ ap (replicate (length a.output.now)) value.encoded.ensures),
-      answer-reports _ _ _ _ _ told.answer-of.ensures (sampler-skips _ _ _),
+      answer_reports _ _ _ _ _ told.answer-of.ensures (sampler_skips _ _ _),
     )
 
 fill-requires-2 : tie.Need-fill-requires-2
@@ -51,7 +51,7 @@ fill-requires-2 c κs =
     let good = reading.before.before in
     let told = good.before.before.before.before in
     let a = told.before.before.before.before.args in
-    plan-enough (held a.encoding) (heldOne a.encoding) (λ cs. refl) a.words.now a.place a.output.now a.ends
+    plan_enough (held a.encoding) (held_one a.encoding) (λ cs. refl) a.words.now a.place a.output.now a.ends
     told.before.plan-of.ensures told.answer-of.ensures good.if2.false (not-false told.before.plan-of.result.reads
     reading.if3.false)
 
@@ -62,14 +62,14 @@ returns-4 c =
     let told = good.before.before.before.before in
     let start = told.before.before in
     let a = start.before.before.args in (
-      plan-read (held a.encoding) (heldOne a.encoding) (λ cs. refl) a.words.now a.place a.output.now _ told.before.plan-of.ensures
+      plan_read (held a.encoding) (held_one a.encoding) (λ cs. refl) a.words.now a.place a.output.now _ told.before.plan-of.ensures
           told.answer-of.ensures good.if2.false (not-false told.before.plan-of.result.reads reading.if3.false)
           (λ i. (start.shared-slice-known.given i).fits) c.before.before.fill2.ensures,
-      answer-reports _ _ _ _ _ told.answer-of.ensures (sampler-skips _ _ _),
+      answer_reports _ _ _ _ _ told.answer-of.ensures (sampler_skips _ _ _),
     )
 
-pub sample-to-spec : {M : Type 1} → statement M
-sample-to-spec =
+pub sample_to_spec : {M : Type 1} → statement M
+sample_to_spec =
     tie.close
     (tie.spec (λ c κs. search rules) (λ c κs. search rules) (λ c κs. search rules) (λ c. search rules) returns returns-2 (λ c κs. search rules)
     (λ c κs. search rules) (λ c. search rules) returns-3 fill-requires-2 (λ c. search rules) returns-4)

@@ -2,7 +2,7 @@
 use mathlib.Core.Path.{ap, ◌∙◌}
 use native.Mathlib.Omega.{arith}
 use borrow.Author.Rules.{rules}
-use Rattle.output_u64.specs.Out.{heldOne}
+use Rattle.output_u64.specs.Out.{held_one}
 use Rattle.ternary.proofs.Plans.{value-below, value-above, above-small}
 use Rattle.ternary_u64.proofs.ends.element.Statement.{statement}
 use Rattle.ternary_u64.proofs.ends.element.Tie as tie
@@ -17,16 +17,16 @@ returns : tie.Need-returns
 returns c =
     let read = c.before.before.before in
     let a = read.before.before.before.before.args in
-    c.minus_one.ensures ∙ rw (← read.wide_word.ensures) (ap (heldOne a.encoding) (value-below a.plan _ c.before.if1.true))
+    c.minus_one.ensures ∙ rw (← read.wide_word.ensures) (ap (held_one a.encoding) (value-below a.plan _ c.before.if1.true))
 
 returns-2 : tie.Need-returns-2
 returns-2 c =
     let read = c.before.before.before.before in
     let a = read.before.before.before.before.args in
-    rw (← read.wide_word.ensures) (ap (heldOne a.encoding) (value-above a.plan _ c.before.before.if1.false))
+    rw (← read.wide_word.ensures) (ap (held_one a.encoding) (value-above a.plan _ c.before.before.if1.false))
 
-pub element-spec : {M : Type 1} → statement M
-element-spec =
+pub element_spec : {M : Type 1} → statement M
+element_spec =
     tie.close
     (tie.spec (λ c. search rules) (λ c. search rules) (λ c. search rules) (λ c. search rules) (λ c. search rules) (λ c κs. search rules)
     (λ c κs. search rules) (λ c. search rules) (λ c. search rules) add-result returns returns-2)

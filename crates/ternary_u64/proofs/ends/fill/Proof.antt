@@ -4,35 +4,35 @@ use mathlib.Core.Path.{◌≡◌, ◌∙◌}
 use Prim.Native.Nat.{◌+◌, ◌*◌, ◌-◌, ◌%◌}
 use native.Mathlib.Omega.{arith}
 use lib.ListN.{length-set}
-use Rattle.output_u64.specs.Out.{heldOne}
-use Rattle.numbers.proofs.WideStores.{Stored, stored-none, stored-four, left-enough, stored-rest}
-use Rattle.ternary.specs.Sampler.{planValue}
+use Rattle.output_u64.specs.Out.{held_one}
+use Rattle.numbers.proofs.WideStores.{Stored, stored_none, stored_four, left_enough, stored-rest}
+use Rattle.ternary.specs.Sampler.{plan_value}
 use Rattle.ternary_u64.proofs.ends.fill.Statement.{statement}
 use Rattle.ternary_u64.proofs.ends.fill.Tie as tie
 
 abbrev invariant-loop : tie.invariant-loop
 invariant-loop output₀ encoding plan words place n end i₀ at₀ output i at =
-    (at ≡ place + 2 * i) × (i % 4 ≡ 0) × Stored (λ w. heldOne encoding (planValue plan w)) words place output₀ i output
+    (at ≡ place + 2 * i) × (i % 4 ≡ 0) × Stored (λ w. held_one encoding (plan_value plan w)) words place output₀ i output
 
 abbrev decreases-loop : tie.decreases-loop
 decreases-loop output₀ encoding plan words place n end i₀ at₀ output i at = n - i
 
 loop-holds : tie.Need-loop-init invariant-loop decreases-loop
-loop-holds c = (omega arith, omega arith, stored-none _ _ _ _)
+loop-holds c = (omega arith, omega arith, stored_none _ _ _ _)
 
 loop-again : tie.Need-loop-preserved invariant-loop decreases-loop
 loop-again c =
     let turn = c.before.before.before.before.before.loop in (
       omega arith,
       omega arith,
-      stored-four _ _ _ _ turn.invariant.2 (omega arith) turn.invariant.0 c.before.before.before.element.ensures
+      stored_four _ _ _ _ turn.invariant.2 (omega arith) turn.invariant.0 c.before.before.before.element.ensures
           c.before.before.element2.ensures c.before.element3.ensures c.element4.ensures,
     )
 
 fill-rest-requires : tie.Need-fill-rest-requires invariant-loop decreases-loop
 fill-rest-requires c κs =
     let at-loop = c.before.before in
-    left-enough _ _ _ _ at-loop.loop.invariant.2 at-loop.loop.invariant.0 at-loop.before.before.before.requires
+    left_enough _ _ _ _ at-loop.loop.invariant.2 at-loop.loop.invariant.0 at-loop.before.before.before.requires
 
 same_length : tie.Need-same-length invariant-loop decreases-loop
 same_length c =

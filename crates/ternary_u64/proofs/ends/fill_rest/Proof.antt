@@ -2,21 +2,21 @@
 use mathlib.Core.Path.{◌≡◌, refl}
 use Prim.Native.Nat.{◌+◌, ◌*◌, ◌-◌}
 use native.Mathlib.Omega.{arith}
-use Rattle.output_u64.specs.Out.{heldOne}
-use Rattle.numbers.proofs.WideStores.{Stored, stored-none, stored_more, stored-all}
-use Rattle.ternary.specs.Sampler.{planValue}
+use Rattle.output_u64.specs.Out.{held_one}
+use Rattle.numbers.proofs.WideStores.{Stored, stored_none, stored_more, stored-all}
+use Rattle.ternary.specs.Sampler.{plan_value}
 use Rattle.ternary_u64.proofs.ends.fill_rest.Statement.{statement}
 use Rattle.ternary_u64.proofs.ends.fill_rest.Tie as tie
 
 abbrev invariant-loop : tie.invariant-loop
 invariant-loop output₀ encoding plan words place n i₀ at₀ output i at =
-    (at ≡ place + 2 * i) × Stored (λ w. heldOne encoding (planValue plan w)) words place output₀ i output
+    (at ≡ place + 2 * i) × Stored (λ w. held_one encoding (plan_value plan w)) words place output₀ i output
 
 abbrev decreases-loop : tie.decreases-loop
 decreases-loop output₀ encoding plan words place n i₀ at₀ output i at = n - i
 
 loop-holds : tie.Need-loop-init invariant-loop decreases-loop
-loop-holds c = (omega arith, stored-none _ _ _ _)
+loop-holds c = (omega arith, stored_none _ _ _ _)
 
 loop-again : tie.Need-loop-preserved invariant-loop decreases-loop
 loop-again c =
@@ -30,8 +30,8 @@ returns c =
     let start = c.before.before.before.before in
     stored-all _ _ _ _ c.before.loop.invariant.1 (omega arith) start.requires
 
-pub fill-rest-spec : {M : Type 1} → statement M
-fill-rest-spec =
+pub fill_rest_spec : {M : Type 1} → statement M
+fill_rest_spec =
     tie.close
     (tie.spec invariant-loop decreases-loop loop-holds (λ c κs. omega arith) (λ c. omega arith) (λ c. omega arith) (λ c. omega arith) (λ c. omega arith)
     (λ c. omega arith) loop-again (λ c. c.before.loop.invariant.1.same_length) returns)

@@ -38,8 +38,8 @@ returns-3 c =
     let turn = c.before.loop in
     (λ e. ext_get_or (pos 0) _ _ c.before.before.if1.false (λ k below. turn.invariant.1 k (omega arith)), λ e. refl)
 
-pub same-signed-spec : {M : Type 1} → statement M
-same-signed-spec =
+pub same_signed_spec : {M : Type 1} → statement M
+same_signed_spec =
     tie.close
     (tie.spec invariant-loop decreases-loop returns loop-holds (λ c. search rules) (λ c. search rules) (λ c. search rules) (λ c. search rules) returns-2 (λ c. search rules)
     (λ c. search rules) loop-again returns-3)

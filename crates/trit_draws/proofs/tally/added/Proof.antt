@@ -10,5 +10,5 @@ early s v =
     let whole : s * 31 + v ≡ (s % 4294967296 * 31 + v % 4294967296) + turns * 4294967296 = omega arith in
     rw whole (sym (add-mul-mod_self_right (s % 4294967296 * 31 + v % 4294967296) turns 4294967296))
 
-pub added-spec : {M : Type 1} → statement M
-added-spec = tie.close (tie.spec (λ c. search rules) (λ c. search rules) (λ c. early c.args.sum c.args.value))
+pub added_spec : {M : Type 1} → statement M
+added_spec = tie.close (tie.spec (λ c. search rules) (λ c. search rules) (λ c. early c.args.sum c.args.value))

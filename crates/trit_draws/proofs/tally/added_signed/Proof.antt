@@ -9,8 +9,8 @@ invariant-loop sum output all₀ i₀ all i = Unit {0}
 abbrev decreases-loop : tie.decreases-loop
 decreases-loop sum output all₀ i₀ all i = length output - i
 
-pub added-signed-spec : {M : Type 1} → statement M
-added-signed-spec =
+pub added_signed_spec : {M : Type 1} → statement M
+added_signed_spec =
     tie.close
     (tie.spec invariant-loop decreases-loop (λ c. search rules) (λ c. search rules) (λ c. search rules) (λ c κs. search rules) (λ c κs. search rules) (λ c. search rules)
     (λ c. search rules) (λ c. search rules) (λ c. search rules))

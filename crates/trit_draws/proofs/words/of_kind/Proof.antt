@@ -9,8 +9,8 @@ invariant-loop kind words₀ state₀ i₀ words state i = 96 ≡ length words
 abbrev decreases-loop : tie.decreases-loop
 decreases-loop kind words₀ state₀ i₀ words state i = 96 - i
 
-pub of-kind-spec : {M : Type 1} → statement M
-of-kind-spec =
+pub of_kind_spec : {M : Type 1} → statement M
+of_kind_spec =
     tie.close
     (tie.spec invariant-loop decreases-loop (λ c κs. search rules) (λ c. search rules) (λ c κs. search rules) (λ c κs. search rules) (λ c. search rules) (λ c. search rules)
     (λ c. search rules) (λ c. search rules) (λ c. search rules) (λ c. search rules))

@@ -30,8 +30,8 @@ returns c =
     let right : line ≡ line_of (digits 3 5 a.byte) = cc in
     sets-all a.line.now line (omega arith) ∙ right
 
-pub write-line-spec : {M : Type 1} → statement M
-write-line-spec =
+pub write_line_spec : {M : Type 1} → statement M
+write_line_spec =
     tie.close
     (tie.spec (λ c κs. search rules) (λ c. search rules) (λ c. search rules) (λ c κs. search rules) (λ c. search rules)
     (λ c. search rules) (λ c κs. search rules) (λ c. simp length-set (omega arith)) (λ c. simp length-set (omega arith)) (λ c κs. search rules)

@@ -3,7 +3,7 @@ use mathlib.Core.Path.{◌≡◌, sym, ap, ◌∙◌}
 use Prim.Native.Nat.{ℕ, ◌+◌, ◌-◌, ◌*◌, ◌≤◌}
 use native.Mathlib.Omega.{arith}
 use lib.ListN.{length, length-take, length-drop}
-use Rattle.trit_page.proofs.Lines.{printed, length-printed, printed-none, printed-more, printed-all}
+use Rattle.trit_page.proofs.Lines.{printed, length-printed, printed_none, printed_more, printed-all}
 use Rattle.trit_page.proofs.page.write_page.Statement.{statement}
 use Rattle.trit_page.proofs.page.write_page.Tie as tie
 
@@ -22,14 +22,14 @@ room : (c : tie.In-loop invariant-loop decreases-loop) → 10 * c.before.loop.by
 room c = omega (arith, kept c.before)
 
 loop-holds : tie.Need-loop-init invariant-loop decreases-loop
-loop-holds c = (omega arith, sym (printed-none c.before.args.page.now))
+loop-holds c = (omega arith, sym (printed_none c.before.args.page.now))
 
 loop-again : tie.Need-loop-preserved invariant-loop decreases-loop
 loop-again c =
     let call = c.before.before in
     let loop = call.before.before.before.loop in
     let page = call.before.before.before.before.before.args.page.now in
-    (omega arith, rw loop.invariant.1 (printed-more loop.byte page call.write-line.new.0 call.write-line.ensures))
+    (omega arith, rw loop.invariant.1 (printed_more loop.byte page call.write-line.new.0 call.write-line.ensures))
 
 returns : tie.Need-returns invariant-loop decreases-loop
 returns c =
@@ -38,8 +38,8 @@ returns c =
     let end : loop.byte ≡ 243 = omega arith in
     loop.invariant.1 ∙ ap (λ (k : ℕ). printed k page) end ∙ printed-all page (omega arith)
 
-pub write-page-spec : {M : Type 1} → statement M
-write-page-spec =
+pub write_page_spec : {M : Type 1} → statement M
+write_page_spec =
     tie.close
     (tie.spec invariant-loop decreases-loop loop-holds (λ c. omega arith) (λ c. omega arith) (λ c. omega arith) (λ c. omega arith) (λ c. omega (arith, room c))
     (λ c. omega (arith, room c)) (λ c κs. simp (length-take, length-drop) (omega (arith, room c.before))) (λ c. omega arith) (λ c. omega arith)

@@ -10,5 +10,5 @@ returns : tie.Need-returns
 unfolding round of_bits
 returns c = ap (λ (made : MadeThreshold). made.threshold) c.before.threshold-of.ensures
 
-pub zero-threshold-spec : {M : Type 1} → statement M
-zero-threshold-spec = tie.close (tie.spec (λ c κs. search rules) returns)
+pub zero_threshold_spec : {M : Type 1} → statement M
+zero_threshold_spec = tie.close (tie.spec (λ c κs. search rules) returns)

@@ -5,8 +5,8 @@ use Rattle.primus_distr.proofs.gaussian.SignedDiscreteGaussian.sample_encoded_to
 }
 use Rattle.primus_distr.proofs.gaussian.SignedDiscreteGaussian.sample_encoded_to.Tie as tie
 
-pub sample-encoded-to-spec : {M : Type 1} → statement M
-sample-encoded-to-spec =
+pub sample_encoded_to_spec : {M : Type 1} → statement M
+sample_encoded_to_spec =
     tie.close
     (tie.spec (λ c κs. search rules) (λ c κs. search rules) (λ c. search rules)
     (λ c. let view = c.before.before.before.before.as-error in rw view.ensures at c.before.before.sample-encoded-to.ensures))

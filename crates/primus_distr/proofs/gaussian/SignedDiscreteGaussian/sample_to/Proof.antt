@@ -5,8 +5,8 @@ use Rattle.primus_distr.proofs.gaussian.SignedDiscreteGaussian.sample_to.Stateme
 }
 use Rattle.primus_distr.proofs.gaussian.SignedDiscreteGaussian.sample_to.Tie as tie
 
-pub sample-to-spec : {M : Type 1} → statement M
-sample-to-spec =
+pub sample_to_spec : {M : Type 1} → statement M
+sample_to_spec =
     tie.close
     (tie.spec (λ c κs. search rules) (λ c κs. search rules) (λ c. search rules)
     (λ c. let view = c.before.before.before.as-error in rw view.ensures at c.before.sample-signed-to.ensures))

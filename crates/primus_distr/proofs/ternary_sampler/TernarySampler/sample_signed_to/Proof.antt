@@ -5,8 +5,8 @@ use Rattle.primus_distr.proofs.ternary_sampler.TernarySampler.sample_signed_to.S
 }
 use Rattle.primus_distr.proofs.ternary_sampler.TernarySampler.sample_signed_to.Tie as tie
 
-pub sample-signed-to-spec : {M : Type 1} → statement M
-sample-signed-to-spec =
+pub sample_signed_to_spec : {M : Type 1} → statement M
+sample_signed_to_spec =
     tie.close
     (tie.spec (λ c κs. search rules) (λ c. search rules) (λ c. search rules) (λ c. search rules) (λ c. search rules) (λ c κs. search rules)
     (λ c. search rules)

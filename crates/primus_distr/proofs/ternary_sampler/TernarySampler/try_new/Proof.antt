@@ -19,6 +19,6 @@ returns-2 c =
     ternary-made _ _ judged.check-ternary-probabilities.ensures if1.false
     threshold-of.ensures c.before.before.before.threshold-of2.ensures c.from-thresholds.ensures
 
-pub try-new-spec : {M : Type 1} → statement M
-try-new-spec =
+pub try_new_spec : {M : Type 1} → statement M
+try_new_spec =
     tie.close (tie.spec (λ c κs. search rules) returns (λ c κs. search rules) (λ c κs. search rules) (λ c κs. search rules) returns-2)
