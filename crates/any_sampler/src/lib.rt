@@ -13,7 +13,7 @@ use methods::{PreparedMethod, SamplingMethod, judged};
 use secret_key_sampler::SecretKeySampler;
 
 // A distribution of either kind, or none: a number that names no distribution.
-#[derive(Drop)]
+#[derive(Clone, Copy)]
 pub enum AnyDistr {
     Secret(SecretKeyDistr),
     Error(ErrorDistribution),

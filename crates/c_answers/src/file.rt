@@ -4,7 +4,7 @@ use crate::request::is_answered;
 use crate::tally::{Tally, none, with_line};
 
 // What is counted so far, and the line that is being read.
-#[derive(Drop)]
+#[derive(Clone, Copy)]
 struct State {
     tally: Tally,
     line: Line,

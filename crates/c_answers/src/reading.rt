@@ -5,7 +5,7 @@ pub(crate) const NUMBERS: usize = 1024;
 
 // A line as far as it is read: how many of its numbers are there; of the next one the value so far, and whether it has a digit; and whether all is
 // well formed.
-#[derive(Drop)]
+#[derive(Clone, Copy)]
 pub(crate) struct Line {
     pub count: usize,
     pub value: u64,

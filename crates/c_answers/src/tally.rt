@@ -2,7 +2,7 @@
 use libc::STDOUT_FILENO;
 
 // The number of answers, and of those that agree. Each line is an answer, so the first is also the number of the last line.
-#[derive(Drop)]
+#[derive(Clone, Copy)]
 pub(crate) struct Tally {
     pub answers: u64,
     pub agree: u64,

@@ -10,7 +10,7 @@ pub type Guide = [usize; 256];
 const MANY_ENDS: usize = 64;
 
 // A coefficient that no output has encoded yet.
-#[derive(Drop)]
+#[derive(Clone, Copy)]
 pub struct Sampled {
     pub positive: bool,
     pub magnitude: u64,

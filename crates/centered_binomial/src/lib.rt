@@ -11,21 +11,21 @@ use distr::limits::MAX_ETA;
 use distr::refusal::INVALID_ETA;
 
 // What making prepares: eta, and a mask of eta ones.
-#[derive(Drop)]
+#[derive(Clone, Copy)]
 pub struct CenteredBinomialParameters {
     pub eta: u32,
     pub mask: u64,
 }
 
 // What making hands back: number 0 and the parameters, or 4 and empty ones.
-#[derive(Drop)]
+#[derive(Clone, Copy)]
 pub struct MadeBinomial {
     pub number: u32,
     pub parameters: CenteredBinomialParameters,
 }
 
 // The ones of the low eta bits of a word, and those of the next eta bits.
-#[derive(Drop)]
+#[derive(Clone, Copy)]
 pub struct Ones {
     pub first: u32,
     pub second: u32,

@@ -136,7 +136,7 @@ pub fn finish(
 }
 
 // Where the row of one modulus lies in an output: the index of its first element, and the one after its last.
-#[derive(Drop)]
+#[derive(Clone, Copy)]
 pub struct RowRange {
     pub start: usize,
     pub end: usize,

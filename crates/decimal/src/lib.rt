@@ -6,7 +6,7 @@ ghost use Rattle.decimal.specs.Decimal.{decimal, at_front, Counts};
 const PIECE: u64 = 0x1_0000_0000;
 
 // What a division by ten gives: the halves of the quotient, and the digit that is left.
-#[derive(Drop)]
+#[derive(Clone, Copy)]
 struct Quotient {
     high: u64,
     low: u64,

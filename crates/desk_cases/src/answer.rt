@@ -9,7 +9,7 @@ use desk::desk_draw;
 use libc::STDOUT_FILENO;
 
 // What is printed of an answer, but for the output's bytes: these stand at the start of a text, up to `end`.
-#[derive(Drop)]
+#[derive(Clone, Copy)]
 pub(crate) struct Drawn {
     pub number: u32,
     pub place: usize,

@@ -94,7 +94,7 @@ fn read_digits(text: &[u8], values: &mut [u8])
 }
 
 // Whether a field stands for bytes that there is room for, and how many; none where it does not.
-#[derive(Drop)]
+#[derive(Clone, Copy)]
 pub(crate) struct Field {
     pub good: bool,
     pub count: usize,

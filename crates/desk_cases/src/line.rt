@@ -25,7 +25,7 @@ fn text_room() -> [u8; 66000]
 }
 
 // A number of a line: its value, and where the next field begins.
-#[derive(Drop)]
+#[derive(Clone, Copy)]
 struct Item {
     good: bool,
     value: u64,
@@ -56,7 +56,7 @@ fn number_at(line: &[u8], at: usize, most: u64) -> Item
 }
 
 // The numbers of a line, and where the field of its words begins.
-#[derive(Drop)]
+#[derive(Clone, Copy)]
 struct Numbers {
     good: bool,
     kind: u32,

@@ -5,7 +5,7 @@ ghost use Rattle.std.specs.Prelude.{◌≤◌};
 pub(crate) const MOST_64: u64 = 0xffff_ffff_ffff_ffff;
 
 // Whether a text is a number of at most so much, and its value: 0 where it is none.
-#[derive(Drop)]
+#[derive(Clone, Copy)]
 pub(crate) struct Number {
     pub good: bool,
     pub value: u64,

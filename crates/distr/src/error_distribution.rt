@@ -1,5 +1,5 @@
 // The distribution of independent error coefficients.
-#[derive(Drop)]
+#[derive(Clone, Copy)]
 pub enum ErrorDistribution {
     // Discrete Gaussian with this deviation.
     Gaussian { standard_deviation: f64 },

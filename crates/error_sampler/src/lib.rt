@@ -16,14 +16,14 @@ use methods::key::{method_key, same_key};
 use methods::{PreparedMethod, SamplingMethod, tested, validated_modulus};
 
 // A prepared sampler. Its fields are public, so a draw judges first whether making gives it (21).
-#[derive(Drop)]
+#[derive(Clone, Copy)]
 pub struct ErrorSampler {
     pub distribution: ErrorDistribution,
     pub method: SamplingMethod,
 }
 
 // What making hands back: number 0 and the sampler, or the number that refuses and the empty sampler.
-#[derive(Drop)]
+#[derive(Clone, Copy)]
 pub struct MadeErrorSampler {
     pub number: u32,
     pub sampler: ErrorSampler,

@@ -5,7 +5,7 @@ ghost use Rattle.fixed_weights.specs.Inserting.{lowest_sign_and_place, sign_and_
 use words::Taken;
 
 // A sign bit and a chosen place; then the signs left of the word read last, how many they are, and the place in the words.
-#[derive(Drop)]
+#[derive(Clone, Copy)]
 pub enum Signing {
     Got {
         bit: usize,

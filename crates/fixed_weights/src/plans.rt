@@ -4,7 +4,7 @@ ghost use Rattle.std.specs.Prelude.{◌≡◌, cond, ◌+◌, ◌≤◌, ltb};
 ghost use Rattle.fixed_weights.specs.Plans.{composition_plan, only_first, binary_plan, planning, weight_number};
 
 // One value fills; copies of a first and then of a second are inserted.
-#[derive(Drop)]
+#[derive(Clone, Copy)]
 pub struct Plan {
     pub fill: usize,
     pub first: usize,
@@ -14,7 +14,7 @@ pub struct Plan {
 }
 
 // A plan, or the number that refuses the draw.
-#[derive(Drop)]
+#[derive(Clone, Copy)]
 pub enum Planning {
     By(Plan),
     Refused(u32),

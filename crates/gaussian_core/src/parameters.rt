@@ -11,7 +11,7 @@ use distr::refusal::{INVALID_STANDARD_DEVIATION, MAXIMUM_MAGNITUDE_TOO_LARGE};
 const U64_RANGE_END_AS_F64: f64 = 18446744073709551616.0;
 
 // A number, 2 or 3 for a refused deviation, and the record where it is 0.
-#[derive(Drop)]
+#[derive(Clone, Copy)]
 pub struct MadeParameters {
     pub number: u32,
     pub parameters: GaussianParameters,

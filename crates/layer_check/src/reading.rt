@@ -7,14 +7,14 @@ use residue_text::number::ALL;
 use residue_text::numbers::{Numbers, read_numbers};
 
 // The first bad number of a text: its line, 5 for all that follow the fourth and 0 for none, and which number of the text it is, counted from 1.
-#[derive(Drop)]
+#[derive(Clone, Copy)]
 pub(crate) struct Bad {
     pub line: usize,
     pub position: usize,
 }
 
 // Where a line ends, and where the text after it begins.
-#[derive(Drop)]
+#[derive(Clone, Copy)]
 struct Span {
     end: usize,
     next: usize,

@@ -3,7 +3,7 @@ use float_bits::f64_of_bits;
 use residue_text::numbers::Numbers;
 
 // A line as far as it is read: how many reals, and of the next one the digits so far and their value. `more` says that it is none or has no room.
-#[derive(Drop)]
+#[derive(Clone, Copy)]
 struct Reals {
     count: usize,
     size: usize,

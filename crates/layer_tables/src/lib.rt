@@ -11,7 +11,7 @@ use gaussian_core::rising::rising_ok;
 mod first_wrong;
 
 // What is wrong with layer tables: the number, and the first wrong index where the number names one.
-#[derive(Drop)]
+#[derive(Clone, Copy)]
 pub struct LayerFault {
     pub number: u32,
     pub index: usize,

@@ -12,7 +12,7 @@ const GAUSSIAN: u32 = 15;
 const CENTERED_BINOMIAL: u32 = 16;
 
 // One record for all methods: the kind, and what it holds (0 where it holds nothing).
-#[derive(Drop)]
+#[derive(Clone, Copy)]
 pub struct MethodKey {
     pub kind: u32,
     pub full: bool,

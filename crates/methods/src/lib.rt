@@ -17,7 +17,7 @@ use numbers::{block_number, weight_number};
 use ternary::ternary::TernaryEnds;
 
 // Prepared state for one algorithm; dispatch stays outside coefficient loops. Empty is the method of a sampler that was refused.
-#[derive(Drop)]
+#[derive(Clone, Copy)]
 pub enum SamplingMethod {
     UniformBinary,
     Binary(Threshold),
@@ -44,7 +44,7 @@ pub enum SamplingMethod {
 }
 
 // A method with the number that refuses every draw by it; 0 where none does. What is refused has the method Empty, or one that no draw looks at.
-#[derive(Drop)]
+#[derive(Clone, Copy)]
 pub struct PreparedMethod {
     pub number: u32,
     pub method: SamplingMethod,

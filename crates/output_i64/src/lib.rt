@@ -7,7 +7,7 @@ ghost use Rattle.output_i64.specs.Out.{zero, held_one, held_sign};
 pub type Out = i64;
 
 // How -1 is held: signed output has it as it is.
-#[derive(Drop)]
+#[derive(Clone, Copy)]
 pub struct Encoding {}
 
 // Every element becomes the value.

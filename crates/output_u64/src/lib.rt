@@ -7,7 +7,7 @@ ghost use Rattle.output_u64.specs.Out.{zero, held_one, held_sign};
 pub type Out = u64;
 
 // How -1 is held: as the modulus less 1, or as 2^64 - 1 for native residues.
-#[derive(Drop)]
+#[derive(Clone, Copy)]
 pub struct Encoding {
     pub minus_one: u64,
 }

@@ -5,7 +5,7 @@ ghost use Rattle.std.specs.Prelude.{◌≡◌, ◌-◌, ◌*◌, ◌^◌, min};
 pub const ACCEPTED: u32 = 243;
 
 // How far whole words were stored: so many values, and the place of the next word.
-#[derive(Drop)]
+#[derive(Clone, Copy)]
 pub struct WordsStored {
     pub at: usize,
     pub place: usize,
@@ -13,7 +13,7 @@ pub struct WordsStored {
 
 // Where a reading of bytes stopped: the place after the last word read, and how many bytes of that word were not looked at; unless a word
 // was missing.
-#[derive(Drop)]
+#[derive(Clone, Copy)]
 pub struct Ended {
     pub found: bool,
     pub place: usize,

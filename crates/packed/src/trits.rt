@@ -276,7 +276,7 @@ pub fn trit_table() -> TritTable
 }
 
 // How the trits of a byte are found.
-#[derive(Drop)]
+#[derive(Clone, Copy)]
 pub enum TritsBy {
     // In the table: the engine's way.
     Table,
@@ -285,7 +285,7 @@ pub enum TritsBy {
 }
 
 // Where the trits of a byte stand in a table of pairs: the first two, the next two, and the last.
-#[derive(Drop)]
+#[derive(Clone, Copy)]
 pub struct Places {
     pub first: usize,
     pub second: usize,

@@ -1,5 +1,5 @@
 // How a word is cut into digits, lowest first.
-#[derive(Drop)]
+#[derive(Clone, Copy)]
 pub enum Width {
     // 32 bits.
     Bits,

@@ -17,7 +17,7 @@ use numbers::draw_number;
 use output_u64::Encoding;
 
 // A prepared method with the modulus of its residues.
-#[derive(Drop)]
+#[derive(Clone, Copy)]
 pub struct ResidueMethod {
     pub prepared: PreparedMethod,
     pub modulus: u64,

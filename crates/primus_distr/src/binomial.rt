@@ -13,13 +13,13 @@ use error_sampler::ErrorSampler;
 use methods::SamplingMethod;
 
 // Eta and its mask. The fields are public, so a draw judges them first (21).
-#[derive(Drop)]
+#[derive(Clone, Copy)]
 pub struct CenteredBinomial {
     pub parameters: CenteredBinomialParameters,
 }
 
 // What making hands back: number 0 and the sampler, or 4 and an empty one.
-#[derive(Drop)]
+#[derive(Clone, Copy)]
 pub struct MadeCenteredBinomial {
     pub number: u32,
     pub sampler: CenteredBinomial,

@@ -14,13 +14,13 @@ use error_sampler::ErrorSampler;
 use methods::SamplingMethod;
 
 // The deviation and its support. The fields are public, so a draw judges them first (21).
-#[derive(Drop)]
+#[derive(Clone, Copy)]
 pub struct SignedDiscreteGaussian {
     pub parameters: GaussianParameters,
 }
 
 // What making hands back: number 0 and the sampler, or 2 or 3 and an empty one.
-#[derive(Drop)]
+#[derive(Clone, Copy)]
 pub struct MadeSignedDiscreteGaussian {
     pub number: u32,
     pub sampler: SignedDiscreteGaussian,

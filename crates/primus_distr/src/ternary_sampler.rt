@@ -13,7 +13,7 @@ use secret_key_sampler::SecretKeySampler;
 use ternary::ternary::TernaryEnds;
 
 // The probabilities of -1 and 1, and the ends that making finds for them. The fields are public, so a draw judges them first (21).
-#[derive(Drop)]
+#[derive(Clone, Copy)]
 pub struct TernarySampler {
     pub negative_one_probability: f64,
     pub one_probability: f64,
@@ -21,7 +21,7 @@ pub struct TernarySampler {
 }
 
 // What making hands back: number 0 and the sampler, or 1 and an empty one.
-#[derive(Drop)]
+#[derive(Clone, Copy)]
 pub struct MadeTernarySampler {
     pub number: u32,
     pub sampler: TernarySampler,

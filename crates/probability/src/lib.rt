@@ -9,7 +9,7 @@ use distr::refusal::INVALID_PROBABILITIES;
 use distr::threshold::Threshold;
 
 // A number, 1 for what is no probability, and the threshold where it is 0.
-#[derive(Drop)]
+#[derive(Clone, Copy)]
 pub struct MadeThreshold {
     pub number: u32,
     pub threshold: Threshold,

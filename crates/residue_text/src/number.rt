@@ -6,7 +6,7 @@ ghost use Rattle.residue_text.specs.Numbers.{number_of};
 pub const ALL: u64 = 0xffff_ffff_ffff_ffff;
 
 // Whether a token is a number of at most so much, and its value: 0 where it is none.
-#[derive(Drop)]
+#[derive(Clone, Copy)]
 pub(crate) struct Number {
     pub good: bool,
     pub value: u64,

@@ -7,7 +7,7 @@ use crate::number::read_number;
 use crate::scan::{NO_SPACE, SPACE, scan};
 
 // How many numbers were read, and whether a token is left over: one that is no such number, or that there is no room for.
-#[derive(Drop)]
+#[derive(Clone, Copy)]
 pub struct Numbers {
     pub count: usize,
     pub more: bool,

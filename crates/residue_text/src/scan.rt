@@ -40,7 +40,7 @@ pub(crate) fn scan(text: &[u8], at: usize, what: u8) -> usize
 }
 
 // Where the first line of a text ends, and where the text after it begins.
-#[derive(Drop)]
+#[derive(Clone, Copy)]
 pub(crate) struct Line {
     pub end: usize,
     pub next: usize,

@@ -7,7 +7,7 @@ use crate::room::numbers_room;
 use crate::tally::{Tally, empty, with_answer, with_table};
 
 // What is counted so far, and the line that is being read.
-#[derive(Drop)]
+#[derive(Clone, Copy)]
 struct State {
     tally: Tally,
     line: Line,

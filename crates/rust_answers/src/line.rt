@@ -5,7 +5,7 @@ use crate::room::reals_room;
 use crate::words::low_bits;
 
 // A distribution as the calls name it, and whether it is well formed.
-#[derive(Drop)]
+#[derive(Clone, Copy)]
 pub(crate) struct Distr {
     pub kind: u32,
     pub a: usize,

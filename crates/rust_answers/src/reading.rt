@@ -7,7 +7,7 @@ pub(crate) const SIGN: u64 = 0x8000_0000_0000_0000;
 
 // A line as far as it is read: where it is kept and how many of its numbers are there; of the next number the digits so far, whether
 // it has a minus sign, and whether it has a digit; and whether all is well formed.
-#[derive(Drop)]
+#[derive(Clone, Copy)]
 pub(crate) struct Line {
     pub begin: usize,
     pub count: usize,

@@ -2,7 +2,7 @@
 use crate::print::tell;
 
 // The number of lines, of answers among them, and of answers that agree.
-#[derive(Drop)]
+#[derive(Clone, Copy)]
 pub(crate) struct Tally {
     pub lines: u64,
     pub answers: u64,

@@ -16,14 +16,14 @@ pub use secret_key_method::family::{is_binary, is_ternary};
 use secret_key_method::prepare;
 
 // A prepared sampler. Its fields are public, so a draw judges first whether making gives it (21).
-#[derive(Drop)]
+#[derive(Clone, Copy)]
 pub struct SecretKeySampler {
     pub distr: SecretKeyDistr,
     pub method: SamplingMethod,
 }
 
 // What making hands back: number 0 and the sampler, or the number that refuses and the empty sampler.
-#[derive(Drop)]
+#[derive(Clone, Copy)]
 pub struct MadeSecretKeySampler {
     pub number: u32,
     pub sampler: SecretKeySampler,

@@ -6,7 +6,7 @@ use distr::limits::{MAX_SHEET_BYTES, MAX_SHEET_COEFFICIENTS, MAX_SHEET_WORDS};
 use little_endian::words::read_words;
 
 // The fields of a sheet, in their order.
-#[derive(Drop)]
+#[derive(Clone, Copy)]
 pub struct Fields {
     pub kind: u32,
     pub n: u32,

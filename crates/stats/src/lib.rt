@@ -17,7 +17,7 @@ use sums::Totals;
 
 // A report: its number (0 is success), and the two sums in halves of 64 bits. The sum of the centered values is
 // (-1)^negative * (sum_high * 2^64 + sum_low), that of their squares squares_high * 2^64 + squares_low.
-#[derive(Drop)]
+#[derive(Clone, Copy)]
 pub struct Report {
     pub number: u32,
     pub negative: bool,

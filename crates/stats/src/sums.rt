@@ -12,7 +12,7 @@ const BLOCK: usize = 1024;
 
 // What a block's residues add up to: the residues, how many of them are above half the modulus, and the products of the two parts of each
 // magnitude.
-#[derive(Drop)]
+#[derive(Clone, Copy)]
 pub(crate) struct BlockSums {
     pub residues: u64,
     pub negatives: u64,
@@ -22,7 +22,7 @@ pub(crate) struct BlockSums {
 }
 
 // The sums over all residues: of the residues, of the modulus once for each residue above half of it, and of the squares.
-#[derive(Drop)]
+#[derive(Clone, Copy)]
 pub(crate) struct Totals {
     pub residues: Halves,
     pub moduli: Halves,

@@ -6,7 +6,7 @@ ghost use Rattle.ternary.specs.Sampler.{sampler_of, plan_of};
 use distr::threshold::Threshold;
 
 // A value that needs no words.
-#[derive(Drop)]
+#[derive(Clone, Copy)]
 pub enum TernaryValue {
     MinusOne,
     Zero,
@@ -14,7 +14,7 @@ pub enum TernaryValue {
 }
 
 // Cumulative ends of three outcomes, the Rust's `TernarySampler`. The ends that a u64 cannot hold are variants of their own.
-#[derive(Drop)]
+#[derive(Clone, Copy)]
 pub enum TernaryEnds {
     // One value for every coefficient, and no word read.
     Constant(TernaryValue),
@@ -26,7 +26,7 @@ pub enum TernaryEnds {
 
 // What the ends ask for, whatever the type of the output. Where it reads words, one below first_end gives -1, another `above`, and 1 more
 // where it is below second_end; where it reads none, every coefficient is the constant.
-#[derive(Drop)]
+#[derive(Clone, Copy)]
 pub struct Plan {
     pub reads: bool,
     pub constant: TernaryValue,

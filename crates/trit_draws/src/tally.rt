@@ -5,7 +5,7 @@ use primus_distr::Answer;
 
 // The number of draws, and of those that are the same by the table and by division; of each number how many draws answered it, 0 for a draw that
 // succeeded, 9 for a refused modulus, 22 for a place past the words, 23 for too few words; and the sum.
-#[derive(Drop)]
+#[derive(Clone, Copy)]
 pub(crate) struct Tally {
     pub draws: u64,
     pub same: u64,

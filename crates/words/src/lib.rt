@@ -8,7 +8,7 @@ ghost use Rattle.words.specs.Reading.{taken, told, told_chance};
 use distr::threshold::Threshold;
 
 // A value, the place after the words that gave it, and how many words were passed over before them.
-#[derive(Drop)]
+#[derive(Clone, Copy)]
 pub enum Taken {
     Got {
         value: u64,
@@ -19,7 +19,7 @@ pub enum Taken {
 }
 
 // A yes or a no, and the place after the words that gave it.
-#[derive(Drop)]
+#[derive(Clone, Copy)]
 pub enum Told {
     Yes { place: usize },
     No { place: usize },

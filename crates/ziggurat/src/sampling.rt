@@ -6,7 +6,7 @@ ghost use Rattle.ziggurat.specs.Sampling.{edge_words, zero_over};
 use distr::threshold::Threshold;
 
 // A proposed magnitude on a layer, with its sign and the place after its words.
-#[derive(Drop)]
+#[derive(Clone, Copy)]
 pub struct Trial {
     pub layer: usize,
     pub positive: bool,
@@ -15,14 +15,14 @@ pub struct Trial {
 }
 
 // What a try proposes.
-#[derive(Drop)]
+#[derive(Clone, Copy)]
 pub enum Proposal {
     Got(Trial),
     Short,
 }
 
 // A proposal that can be judged: whether it is inside the layer above, and the place after the words of its judging.
-#[derive(Drop)]
+#[derive(Clone, Copy)]
 pub enum Attempted {
     Got(Trial, bool, usize),
     Short,
