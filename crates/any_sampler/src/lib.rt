@@ -1,5 +1,7 @@
 // Inner crate: a key's or an error's distribution as one type, as the definition `Distr` has it, for what selects one by a number; its sampler is made
 // and tested in one call, and hands back the method that it draws by.
+#![tactic(auto)]
+
 ghost use Rattle.std.specs.Prelude.{◌≡◌};
 ghost use Rattle.distr.specs.Distribution.{secret, error};
 ghost use Rattle.method_draws.specs.Drawing.{preparing};

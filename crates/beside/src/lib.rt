@@ -6,6 +6,8 @@
 // What a foreign caller must keep, since no contract can ask it of one: every pointer, that of an empty slice too, is aligned for its
 // elements and never null; it is valid for its length, for writing where the slice is the output or the counts; and
 // these, new_place and whatever else a call writes through overlap neither each other nor anything else that the call is lent.
+#![tactic(auto)]
+
 mod crt;
 mod encoded;
 mod kind;

@@ -1,6 +1,8 @@
 // Replays what the plain C version of beside_c/ answered, in the files that its arguments name, through `sample_poly_cbd`. For each file it prints a line
 // with the number of answers and of those that agree, and before it one for each line of the file that does not; at the end the totals. Then it
 // does the same with altered.txt, a few of the stored lines with one thing changed: a comparison that always agrees would show there.
+#![tactic(auto)]
+
 mod compare;
 mod file;
 mod reading;

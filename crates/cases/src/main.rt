@@ -1,5 +1,7 @@
 // Runs cases of document 01 through the code and prints a line for each: a label, the number, the place after the draw (for a sampler
 // that is made, its M or eta) and the values. What it must print stands in the file `stdout`, written by hand from document 01.
+#![tactic(auto)]
+
 mod draws;
 mod making;
 mod print;

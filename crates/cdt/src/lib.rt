@@ -1,4 +1,6 @@
 // Inner crate of primus_distr: the tables of the cumulative Gaussian draw, and the search of one, for every output type.
+#![tactic(auto)]
+
 ghost use Rattle.std.specs.Prelude.{◌≡◌};
 ghost use Rattle.distr.specs.Gaussian.{cumulative_table};
 ghost use Rattle.cdt.specs.Drawn.{cumulative_number};

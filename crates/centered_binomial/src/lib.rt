@@ -1,5 +1,7 @@
 // Inner crate of primus_distr: the prepared state of the centered binomial of FIPS 203, Algorithm 8, and how a word's ones are counted, for every
 // output type. A coefficient is the ones of eta bits minus the ones of the next eta bits, a 64-bit word for each.
+#![tactic(auto)]
+
 pub mod deviation;
 
 ghost use Rattle.std.specs.Prelude.{◌≡◌, cond};

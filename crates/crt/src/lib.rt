@@ -1,5 +1,7 @@
 // An inner crate of the library primus_distr: the CRT layout, a row of residues for each modulus, one row after the other. The
 // coefficients are drawn once, as native residues (-m is 2^64 - m), into the last row; each row is then made from the last one.
+#![tactic(auto)]
+
 ghost use Rattle.std.specs.Prelude.{◌≡◌, ◌-◌, ◌*◌, ◌≤◌, ◌∷◌, map, length, drop, ◌==◌};
 ghost use Rattle.std.proofs.Math.Seq.{paste};
 ghost use Rattle.distr.specs.Numbers.{first_of, past_end, shape_number, too_long, moduli_numbers};

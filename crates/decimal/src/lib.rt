@@ -1,4 +1,6 @@
 // An inner crate: the decimal text of a number of 128 bits, given as two halves of 64.
+#![tactic(auto)]
+
 ghost use Rattle.std.specs.Prelude.{◌≡◌, ◌+◌, ◌*◌, ◌/◌, ◌%◌, ◌^◌, ◌≤◌, length};
 ghost use Rattle.decimal.specs.Decimal.{decimal, at_front, Counts};
 

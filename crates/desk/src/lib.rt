@@ -1,6 +1,8 @@
 // The entry of the exam desk (02 [4]): a question by numbers, with words and coefficients as little-endian bytes, for a program in C. What it must keep,
 // since no contract can ask it of a foreign caller, stands in include/desk.h: every pointer, that of an empty slice too, is not null and aligned for its
 // elements, and valid for its length; and what is written overlaps nothing else that the call is lent.
+#![tactic(auto)]
+
 ghost use Rattle.std.specs.Prelude.{◌≡◌, ◌/◌, ◌%◌, ◌≤◌, length, replicate, pos};
 ghost use Rattle.distr.specs.Constants.{desk_coefficients, desk_words};
 ghost use Rattle.little_endian.specs.LittleEndian.{words_in};

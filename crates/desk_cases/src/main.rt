@@ -1,5 +1,7 @@
 // Replays requests to the desk's entry: for each file that its arguments name a line with its name, and then for each line of the file the answer of
 // `desk_draw`, or `bad line`. README.md has the format.
+#![tactic(auto)]
+
 mod answer;
 mod hex;
 mod line;

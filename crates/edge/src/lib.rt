@@ -1,4 +1,6 @@
 // Inner crate of primus_distr: the acceptance test on a layer's edge, each f64 operation in the order of `sample` and of the preparation in `new`.
+#![tactic(auto)]
+
 ghost use Rattle.std.specs.Prelude.{◌≡◌};
 ghost use Rattle.distr.specs.Layered.{float};
 ghost use Rattle.edge.specs.Edge.{slope_of, line_of, accepts_on};

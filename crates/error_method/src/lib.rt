@@ -1,4 +1,6 @@
 // Inner crate of primus_distr: how the method of an error distribution is prepared.
+#![tactic(auto)]
+
 ghost use Rattle.std.specs.Prelude.{◌≡◌};
 ghost use Rattle.error_method.specs.Method.{preparing};
 

@@ -1,5 +1,7 @@
 // Behind primus_distr, by which callers reach it: error coefficients from lent words, by a prepared sampler with signed, encoded and
 // CRT output.
+#![tactic(auto)]
+
 mod draws;
 
 ghost use Rattle.std.specs.Prelude.{◌≡◌, not, [], ◌∷◌};

@@ -1,5 +1,7 @@
 // Answers the sheet on standard input, with a third line where the argument `skipped` asks for it. One byte more than a sheet may have is asked
 // for, so that a longer input is refused.
+#![tactic(auto)]
+
 ghost use Rattle.std.specs.Prelude.{◌≡◌, length};
 
 use libc::{STDERR_FILENO, STDIN_FILENO, STDOUT_FILENO};

@@ -1,5 +1,7 @@
 // Answers the sheets in the files that its arguments name: for each a line with its name, and then the answer, with the third line for those
 // named after the argument `skipped`.
+#![tactic(auto)]
+
 ghost use Rattle.std.specs.Prelude.{◌≡◌, length};
 
 use libc::STDOUT_FILENO;

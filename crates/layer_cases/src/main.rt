@@ -1,5 +1,7 @@
 // Judges and draws by changed layer tables, through `primus_distr` alone: for each file that its arguments name a line with its name, and then for each case of
 // the file a line with the verdict on the tables and the answers of six draws by them. README.md has the format.
+#![tactic(auto)]
+
 mod case;
 mod error_draws;
 mod figures;

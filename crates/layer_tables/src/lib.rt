@@ -1,5 +1,7 @@
 // Inner crate of primus_distr: the lent tables of the layered Gaussian, judged before a draw (numbers 13, 30, 31 and 32). The loops of this file have
 // no way out but their end.
+#![tactic(auto)]
+
 ghost use Rattle.std.specs.Prelude.{cond, ◌≡◌, eqb};
 ghost use Rattle.distr.specs.Layered.{all_finite, falls, all_in_unit, height_list, curve_list, layer_tables};
 ghost use Rattle.layer_tables.specs.Fault.{layer_fault};

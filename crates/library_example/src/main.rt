@@ -1,5 +1,7 @@
 // The library by example, through `primus_distr` alone. A line is a name, the number, the place after the draw and what the output holds, and of a
 // report the number, the sums and the counts, of a polynomial the number and four coefficients, and of layer tables the number and the index; the file `stdout` is worked out by hand from documents 01 and 02. Every output is 9 throughout before its draw, so what a refusal leaves is seen.
+#![tactic(auto)]
+
 mod print;
 mod refusals;
 

@@ -1,6 +1,8 @@
 // Inner crate of primus_distr: the branch by method, once before any loop over coefficients, for one output type. A Gaussian is drawn by the cumulative
 // table where that holds the support, by the layers above it. This file names the output's type and is one text for every type; some draws have a
 // shorter name here.
+#![tactic(auto)]
+
 ghost use Rattle.std.specs.Prelude.{◌≡◌, length, drop};
 ghost use Rattle.distr.specs.Draw.{outcome};
 ghost use Rattle.distr.specs.Answers.{sums, reported};

@@ -1,5 +1,7 @@
 // Inner crate of primus_distr: the prepared state of both samplers. One type holds the method of any distribution; a method knows its largest
 // magnitude and the lengths and moduli that it takes.
+#![tactic(auto)]
+
 pub mod key;
 
 ghost use Rattle.std.specs.Prelude.{◌≡◌, not, [], ◌∷◌};

@@ -1,5 +1,7 @@
 // Inner crate of primus_distr: the numbers that refuse a draw by its place and its length, before it looks at a word; and the answer of a
 // draw that reads one 64-bit word for each coefficient.
+#![tactic(auto)]
+
 ghost use Rattle.std.specs.Prelude.{◌≡◌, [], ◌∷◌, ◌+◌};
 ghost use Rattle.distr.specs.Numbers.{first_of, past_end, too_long, bad_weight, bad_blocks};
 

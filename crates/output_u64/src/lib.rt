@@ -1,5 +1,7 @@
 // Inner crate of primus_distr: residues. What depends on the output's type stands here and nowhere else: the type, one value over a whole
 // output, and how a coefficient is held. The loops that store are written over `Out`, one text for every type.
+#![tactic(auto)]
+
 ghost use Rattle.std.specs.Prelude.{◌≡◌, length, replicate, pos, negsuc, ◌-ℤ◌};
 ghost use Rattle.output_u64.specs.Out.{zero, held_one, held_sign};
 

@@ -1,5 +1,7 @@
 // Inner crate of primus_distr: packed draws, values written straight from lent words, for one output type. This file names the type; the others are one
 // text for every type.
+#![tactic(auto)]
+
 pub mod binary;
 mod draws;
 mod pairs;

@@ -1,4 +1,6 @@
 // An inner crate of the library primus_distr: the byte form of the centered binomial (02 [3]), Algorithm 8 of FIPS 203, SamplePolyCBD.
+#![tactic(auto)]
+
 mod coefficient;
 
 ghost use Rattle.std.specs.Prelude.{◌≡◌, length};

@@ -1,5 +1,7 @@
 // The library's one public face, under the Rust's names. Behind it every call refuses by document 01's numbers, in its order: 21 for any
 // value that making never gives, and what is refused changes neither output nor place.
+#![tactic(auto)]
+
 mod binomial;
 mod gaussian;
 mod ternary_sampler;

@@ -1,4 +1,6 @@
 // Inner crate of primus_distr: probabilities as f64, which ones a distribution takes, and the threshold of one among the 64-bit words.
+#![tactic(auto)]
+
 ghost use Rattle.std.specs.Prelude.{◌≡◌};
 ghost use Rattle.std.specs.Float.Ieee.Scale.{finite};
 ghost use Rattle.distr.specs.Constants.{invalid_probabilities};

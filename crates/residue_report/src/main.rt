@@ -1,5 +1,7 @@
 // The report of 02 [2] over a modulus, limits and residues in decimal text: on standard input, or in the files that the arguments name, where `-` is
 // standard input and a line with the name stands before each answer. The report never refuses a good text (proofs/Accepting).
+#![tactic(auto)]
+
 mod print;
 mod room;
 

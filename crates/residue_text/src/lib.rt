@@ -1,4 +1,6 @@
 // Reads the text of a report's input: the modulus alone on the first line, the limits on the second, and the residues on all lines after it.
+#![tactic(auto)]
+
 pub mod number;
 pub mod numbers;
 mod scan;

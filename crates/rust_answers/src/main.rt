@@ -2,6 +2,8 @@
 // number of answers and of those that agree, and before it one for each line of the file that does not; at the end the totals.
 // Then it does the same with altered.txt, a few of the stored lines with a number, a place, a sum or a coefficient changed or not well
 // formed: a comparison that always agrees would show there.
+#![tactic(auto)]
+
 mod compare;
 mod draws;
 mod file;

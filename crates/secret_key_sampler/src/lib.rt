@@ -1,4 +1,6 @@
 // Behind primus_distr, by which callers reach it: whole keys from lent words, by a prepared sampler with signed, encoded and CRT output.
+#![tactic(auto)]
+
 mod draws;
 
 ghost use Rattle.std.specs.Prelude.{◌≡◌, not, [], ◌∷◌};

@@ -1,4 +1,6 @@
 // Serves the program keysheet: a sheet's fields and words, and the text that answers it.
+#![tactic(auto)]
+
 mod answer;
 pub mod argument;
 mod fields;

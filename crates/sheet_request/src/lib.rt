@@ -1,5 +1,7 @@
 // Inner crate: a question by numbers, whose kind selects the distribution, which is made and drawn once from a place of the words into a lent output.
 // The library hands it out, and the sheet and the desk draw by it.
+#![tactic(auto)]
+
 mod residues;
 
 ghost use Rattle.std.specs.Prelude.{◌≡◌, length};

@@ -1,5 +1,7 @@
 // An inner crate of the library primus_distr: a report over residues (02 [2]), the exact sums and counts beside the f64 figures of the Rust's
 // `gaussian_stats`.
+#![tactic(auto)]
+
 mod counting;
 mod sums;
 mod wide;

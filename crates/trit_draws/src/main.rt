@@ -1,5 +1,7 @@
 // Draws uniform ternary from many lists of words, by the table of trits and by division, and compares the two. A line is for a list and a place where
 // each draw begins; what it must print stands in the file `stdout`, written by a model that takes one digit after the other.
+#![tactic(auto)]
+
 mod compare;
 mod draws;
 mod print;

@@ -1,5 +1,7 @@
 // An inner crate of the library primus_distr: lent words in place of a random source. Each function reads from a place of the words and
 // hands back the value with the place after it, and a choice also how many words it passed over.
+#![tactic(auto)]
+
 ghost use Rattle.std.specs.Prelude.{◌≡◌, ◌+◌, ◌*◌, ◌%◌, ◌^◌, ◌<◌, length, drop};
 ghost use Rattle.distr.specs.Words.{word, wide, choose, coin};
 ghost use Rattle.distr.specs.Skipped.{passed_over};

@@ -1,5 +1,7 @@
 // Inner crate of primus_distr: the layered Gaussian draw, by its lent tables, for one output type;
 // this file names the output's type, the others are one text for every type.
+#![tactic(auto)]
+
 ghost use Rattle.std.specs.Prelude.{◌≡◌, length, drop};
 ghost use Rattle.distr.specs.Draw.{outcome};
 ghost use Rattle.distr.specs.Answers.{sums, reported};
