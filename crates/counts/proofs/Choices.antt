@@ -68,6 +68,8 @@ choices-carried (k ∷ ks) (s ∷ ss) t b =
     let box = box_cons k s ks ss b in
     let taken = lt-ltb s (k * (2 ^ 32 / k)) (accepts (2 ^ 32) k good.0 good.1 s box.0) in
     rw (taken, mod-eq_of_lt box.0, choices-carried ks ss good.2 box.1)
+choices-carried [] (s ∷ ss) t b = elim b [ ]
+choices-carried (k ∷ ks) [] t b = elim b [ ]
 
 pub choices_are_words : (ks ss : List ℕ) → T (choosable ks) → T (in_box ks ss) → T (are_words ss)
 unfolding in_box are_words
@@ -76,6 +78,8 @@ choices_are_words (k ∷ ks) (s ∷ ss) t b =
     let good = choosable_cons k ks t in
     let box = box_cons k s ks ss b in
     and_i (ltb s (2 ^ 32)) (are_words ss) (lt→ltb s (2 ^ 32) (omega arith)) (choices_are_words ks ss good.2 box.1)
+choices_are_words [] (s ∷ ss) t b = elim b [ ]
+choices_are_words (k ∷ ks) [] t b = elim b [ ]
 
 -- a number is accepted, below N, with the remainder r
 abbrev gives : (N k r w : ℕ) → Bool

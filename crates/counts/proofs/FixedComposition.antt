@@ -47,6 +47,10 @@ profile_of z x y cs t =
   where
     four : (a b c d : Bool) → T (a && (b && (c && d))) → T a × T b × T c × T d
     four true true true true t = (tt, tt, tt, tt)
+    four false b c d t = elim t [ ]
+    four true false c d t = elim t [ ]
+    four true true false d t = elim t [ ]
+    four true true true false t = elim t [ ]
 
 profile_from : (z x y : ℕ) (cs : List ℤ) → Profile z x y cs → T (profile z x y cs)
 unfolding profile
@@ -178,6 +182,10 @@ composition_inside minus ones z n e cs =
 
     four : (a b c d : Bool) → T (a && b && c && d) → T a × T b × T c × T d
     four true true true true t = (tt, tt, tt, tt)
+    four false b c d t = elim t [ ]
+    four true false c d t = elim t [ ]
+    four true true false d t = elim t [ ]
+    four true true true false t = elim t [ ]
 
     back : T test → T (profile z minus ones cs)
     back t =

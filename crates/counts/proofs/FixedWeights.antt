@@ -98,6 +98,9 @@ weights_of z j cs t =
   where
     three : (a b c : Bool) → T (a && (b && c)) → T a × T b × T c
     three true true true t = (tt, tt, tt)
+    three false b c t = elim t [ ]
+    three true false c t = elim t [ ]
+    three true true false t = elim t [ ]
 
 weights_from : (z j : ℕ) (cs : List ℤ) → Weights z j cs → T (weights z j cs)
 unfolding weights
@@ -143,6 +146,9 @@ ternary-inside h n l cs = rw (tally-is (pos 0) cs, every-tally (within 1) cs) (t
 
     three : (a b c : Bool) → T (a && b && c) → T a × T b × T c
     three true true true t = (tt, tt, tt)
+    three false b c t = elim t [ ]
+    three true false c t = elim t [ ]
+    three true true false t = elim t [ ]
 
     back : T test → T (weights (n - h) h cs)
     back t =

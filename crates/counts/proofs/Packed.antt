@@ -32,22 +32,28 @@ unfolding in_box
 box_join [] ss [] es t u = u
 box_join (r ∷ rs) ss (d ∷ ds) es t u =
     and_i (ltb d r) (in_box (rs ++ ss) (ds ++ es)) (and_l (ltb d r) (in_box rs ds) t) (box_join rs ss ds es (and_r (ltb d r) (in_box rs ds) t) u)
+box_join [] ss (d ∷ ds) es t u = elim t [ ]
+box_join (r ∷ rs) ss [] es t u = elim t [ ]
 
 pub box_take : (rs ss ds : List ℕ) → T (in_box (rs ++ ss) ds) → T (in_box rs (take (length rs) ds))
 unfolding in_box
 box_take [] ss ds t = tt
 box_take (r ∷ rs) ss (d ∷ ds) t =
     and_i (ltb d r) (in_box rs (take (length rs) ds)) (and_l (ltb d r) (in_box (rs ++ ss) ds) t) (box_take rs ss ds (and_r (ltb d r) (in_box (rs ++ ss) ds) t))
+box_take (r ∷ rs) ss [] t = elim t [ ]
 
 pub box_drop : (rs ss ds : List ℕ) → T (in_box (rs ++ ss) ds) → T (in_box ss (drop (length rs) ds))
 unfolding in_box
 box_drop [] ss ds t = t
 box_drop (r ∷ rs) ss (d ∷ ds) t = box_drop rs ss ds (and_r (ltb d r) (in_box (rs ++ ss) ds) t)
+box_drop (r ∷ rs) ss [] t = elim t [ ]
 
 pub box_length : (rs ds : List ℕ) → T (in_box rs ds) → length ds ≡ length rs
 unfolding in_box
 box_length [] [] t = refl
 box_length (r ∷ rs) (d ∷ ds) t = ap suc (box_length rs ds (and_r (ltb d r) (in_box rs ds) t))
+box_length [] (d ∷ ds) t = elim t [ ]
+box_length (r ∷ rs) [] t = elim t [ ]
 
 -- equal ranges: the first k draws, and the l after them
 pub box_parts : (k l b : ℕ) (ds : List ℕ) → T (in_box (replicate (k + l) b) ds)
@@ -66,6 +72,7 @@ box_both k l b ds es t u = rw (replicate-append-replicate k l b) at (box_join (r
 box_empty : (ds : List ℕ) → T (in_box [] ds) → [] ≡ ds
 unfolding in_box
 box_empty [] t = refl
+box_empty (_ ∷ _) t = elim t [ ]
 
 zeros_boxed : (k b : ℕ) → 0 < b → T (in_box (replicate k b) (replicate k 0))
 unfolding in_box
@@ -86,6 +93,8 @@ joined-below base (suc k) (d ∷ ds) t =
     rw (pow-suc base k)
     (digits_lt (joined-below base k ds (and_r (ltb d base) (in_box (replicate k base) ds) t))
     (ltb→lt d base (and_l (ltb d base) (in_box (replicate k base) ds) t)))
+joined-below base zero (d ∷ ds) t = elim t [ ]
+joined-below base (suc k) [] t = elim t [ ]
 
 -- the digits of a number joined from digits are those digits
 pub digits-joined : (base k : ℕ) (ds : List ℕ) → T (in_box (replicate k base) ds) → digits base k (joined base ds) ≡ ds
@@ -94,6 +103,8 @@ digits-joined base zero [] t = refl
 digits-joined base (suc k) (d ∷ ds) t =
     let h : d < base = ltb→lt d base (and_l (ltb d base) (in_box (replicate k base) ds) t) in
     rw (digits_mod (joined base ds) h, digits_div (joined base ds) h, digits-joined base k ds (and_r (ltb d base) (in_box (replicate k base) ds) t))
+digits-joined base zero (d ∷ ds) t = elim t [ ]
+digits-joined base (suc k) [] t = elim t [ ]
 
 -- and the number joined from the digits of a number is that number
 joined-digits : (base k x : ℕ) → 0 < base → x < base ^ k → joined base (digits base k x) ≡ x
@@ -117,6 +128,8 @@ box_are_words zero [] t = tt
 box_are_words (suc m) (w ∷ ws) t =
     let rest : Bool = in_box (replicate m (2 ^ 32)) ws in
     and_i (ltb w (2 ^ 32)) (are_words ws) (and_l (ltb w (2 ^ 32)) rest t) (box_are_words m ws (and_r (ltb w (2 ^ 32)) rest t))
+box_are_words zero (w ∷ ws) t = elim t [ ]
+box_are_words (suc m) [] t = elim t [ ]
 
 -- just the words wanted, all of them taken
 all_words : (m : ℕ) (ws : List ℕ) → length ws ≡ m → many word m ws ≡ got ws []
@@ -160,6 +173,8 @@ module _ (base each : ℕ) where
       (drop_at (digits base each x) (split base each xs) each long)
       ∙ ap₂ ◌∷◌ (joined-digits base each x h (ltb→lt x (base ^ each) (and_l (ltb x (base ^ each)) (in_box (replicate m (base ^ each)) xs) t)))
       (pack-split m xs h (and_r (ltb x (base ^ each)) (in_box (replicate m (base ^ each)) xs) t))
+  pack-split zero (x ∷ xs) h t = elim t [ ]
+  pack-split (suc m) [] h t = elim t [ ]
 
   pub pack_boxed : (m : ℕ) (ds : List ℕ) → T (in_box (replicate (m * each) base) ds) → T (in_box (replicate m (base ^ each)) (pack m ds))
   unfolding pack in_box

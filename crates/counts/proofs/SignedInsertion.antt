@@ -45,6 +45,8 @@ signed_boxed (k ∷ ks) zero [] (w ∷ ws) ds rest t e =
 signed_boxed (k ∷ ks) (suc j) (b ∷ bs) ws ds rest t e =
     let both = box_cons 2 b (replicate j 2) bs t in
     sign_step k b (sign_before ks) (choose_signed ks bs) both.0 (λ left ts end. signed_boxed ks j bs left ts end both.1) ws ds rest e
+signed_boxed (k ∷ ks) zero (b ∷ bs) ws ds rest t e = elim t [ ]
+signed_boxed (k ∷ ks) (suc j) [] ws ds rest t e = elim t [ ]
 
 -- a draw list is made of pairs: no sign without its choice
 no_half : (k b : ℕ) (rs : List ℕ) → T (in_box (2 ∷ k ∷ rs) (b ∷ [])) → ⊥
@@ -71,6 +73,8 @@ next-below [] (suc j) [] t = next-below [] j [] t
 next-below (k ∷ ks) (suc j) (b ∷ []) t = absurd (no_half k b (sign_before ks) t)
 next-below (k ∷ ks) (suc j) (b ∷ s ∷ ds) t =
     let each = pair_box k b s (sign_before ks) ds t in in_box_cons b 2 (next_signs j ds) (replicate j 2) each.0 (next-below ks j ds each.2)
+next-below [] (suc j) (b ∷ _) t = elim t [ ]
+next-below (k ∷ ks) (suc j) [] t = elim t [ ]
 
 -- the words that carry a draw list where j signs are at hand: each choice, and before it the next 32 signs where none is
 unfoldable pub carrier : ℕ → List ℕ → List ℕ
@@ -118,6 +122,9 @@ signed-carried (k ∷ ks) (suc j) (b ∷ s ∷ ds) t u =
     let each = pair_box k b s (sign_before ks) ds u in
     let good = choosable_parts k ks t in
     rw (choose_itself k s (carrier j ds) good.0 each.1, signed-carried ks j ds good.1 each.2)
+signed-carried [] j (b ∷ _) t u = elim u [ ]
+signed-carried (k ∷ ks) zero [] t u = elim u [ ]
+signed-carried (k ∷ ks) (suc j) [] t u = elim u [ ]
 
 pub carrier_are_words : (ks : List ℕ) (j : ℕ) (ds : List ℕ) → T (choosable ks) → T (in_box (sign_before ks) ds) → T (are_words (carrier j ds))
 unfolding carrier are_words in_box sign_before
@@ -135,3 +142,6 @@ carrier_are_words (k ∷ ks) (suc j) (b ∷ s ∷ ds) t u =
     let each = pair_box k b s (sign_before ks) ds u in
     let good = choosable_parts k ks t in
     and_i (ltb s (2 ^ 32)) (are_words (carrier j ds)) (word_itself k s good.0 each.1) (carrier_are_words ks j ds good.1 each.2)
+carrier_are_words [] j (b ∷ _) t u = elim u [ ]
+carrier_are_words (k ∷ ks) zero [] t u = elim u [ ]
+carrier_are_words (k ∷ ks) (suc j) [] t u = elim u [ ]

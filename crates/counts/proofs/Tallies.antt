@@ -119,6 +119,7 @@ one_less p n cs s h k t = omega (arith, tally-undo p n cs s h k, one (p (get_or 
   where
     one : (b : Bool) → T b → bit b ≡ 1
     one true t = refl
+    one false t = elim t [ ]
 
 -- copies of u pass a test that says so by the length and the tally of u
 pub copies : (u : ℤ) (m : ℕ) (cs : List ℤ) (test : Bool) → (tally_by (same u) cs ≡ m → length cs ≡ m → T test)

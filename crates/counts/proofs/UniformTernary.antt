@@ -109,6 +109,8 @@ carriers_are_words zero [] t = tt
 carriers_are_words (suc m) (d ∷ ds) t =
     let box = box_cons 243 d (replicate m 243) ds t in
     and_i (ltb (d + 0xFFFFFF00) (2 ^ 32)) (are_words (carriers ds)) (lt→ltb (d + 0xFFFFFF00) (2 ^ 32) (omega arith)) (carriers_are_words m ds box.1)
+carriers_are_words zero (d ∷ ds) t = elim t [ ]
+carriers_are_words (suc m) [] t = elim t [ ]
 
 -- such a word has one accepted byte
 one_byte : (d : ℕ) → d < 243 → accepted_bytes (digits 256 4 (d + 0xFFFFFF00)) ≡ d ∷ []
@@ -125,6 +127,8 @@ carriers_read (suc m) (d ∷ ds) t =
     let box = box_cons 243 d (replicate m 243) ds t in
     let fewer : suc m - 1 ≡ m = omega arith in
     rw (one_byte d box.0, fewer, carriers_read m ds box.1, take-nil m)
+carriers_read zero (d ∷ ds) t = elim t [ ]
+carriers_read (suc m) [] t = elim t [ ]
 
 -- what is taken from a list of draws, and then as many as are still wanted
 box_wanted : (b m : ℕ) (xs ys : List ℕ) → T (in_box (replicate (length xs) b) xs) → T (in_box (replicate (m - length xs) b) ys)

@@ -32,12 +32,16 @@ halves_are_words (suc n) (d ∷ ds) t =
     and_i (ltb (d % 2 ^ 32) (2 ^ 32)) (ltb (d / 2 ^ 32) (2 ^ 32) && are_words (halves ds)) (lt→ltb (d % 2 ^ 32) (2 ^ 32) (omega arith))
     (and_i (ltb (d / 2 ^ 32) (2 ^ 32)) (are_words (halves ds)) (lt→ltb (d / 2 ^ 32) (2 ^ 32) (omega arith))
     (halves_are_words n ds (and_r (ltb d (2 ^ 64)) (in_box (replicate n (2 ^ 64)) ds) t)))
+halves_are_words zero (d ∷ ds) t = elim t [ ]
+halves_are_words (suc n) [] t = elim t [ ]
 
 halves_read : (n : ℕ) (ds : List ℕ) → T (in_box (replicate n (2 ^ 64)) ds) → many wide n (halves ds) ≡ got ds []
 unfolding halves many wide bind_read map_read in_box
 halves_read zero [] t = refl
 halves_read (suc n) (d ∷ ds) t =
     rw (halves_read n ds (and_r (ltb d (2 ^ 64)) (in_box (replicate n (2 ^ 64)) ds) t), mod-add-div' d (2 ^ 32))
+halves_read zero (d ∷ ds) t = elim t [ ]
+halves_read (suc n) [] t = elim t [ ]
 
 wide_boxed : (n : ℕ) (ws ds rest : List ℕ) → T (are_words ws) → many wide n ws ≡ got ds rest → T (in_box (replicate n (2 ^ 64)) ds)
 unfolding many wide bind_read map_read in_box are_words
@@ -103,6 +107,7 @@ constant-counted v n = counted (constant v n) (λ cs. list_of n (same v) cs) (λ
 
     carried : (ds : List ℕ) → T (in_box [] ds) → (words : List ℕ) × (rest : List ℕ) × Carries (constant v n) words 0 ds rest
     carried [] t = ([], [], record { are_words = tt; good-place = omega arith; reads = refl })
+    carried (_ ∷ _) t = elim t [ ]
 
     boxed : (words : List ℕ) (place : ℕ) (ds rest : List ℕ) → Carries (constant v n) words place ds rest → T (in_box [] ds)
     boxed words place ds rest c =

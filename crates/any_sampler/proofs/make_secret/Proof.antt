@@ -5,15 +5,15 @@ use Rattle.secret_key_sampler.proofs.Made.{made-refused, made-method_of}
 use Rattle.any_sampler.proofs.make_secret.Statement.{statement}
 use Rattle.any_sampler.proofs.make_secret.Tie as tie
 
-returns : tie.Need-returns
+returns : tie.Need-returns-then-number-ne0
 returns c =
     let made = c.before.before in
-    c.judged.ensures ∙ made-refused made.before.args.distr made.try-new.ensures c.before.if1.true
+    c.judged.ensures ∙ made-refused made.before.args.distr made.try_new-made.ensures c.before.if-number-ne0.true
 
-returns-2 : tie.Need-returns-2
+returns-2 : tie.Need-returns
 returns-2 c =
     let made = c.before.before.before in
-    c.prepared.ensures ∙ made-method_of made.before.args.distr made.try-new.ensures c.before.before.if1.false
+    c.prepared.ensures ∙ made-method_of made.before.args.distr made.try_new-made.ensures c.before.before.if-number-ne0.false
 
 pub make_secret_spec : {M : Type 1} → statement M
 make_secret_spec = tie.close (tie.spec (λ c κs. search rules) (λ c κs. search rules) returns (λ c κs. search rules) returns-2)

@@ -7,18 +7,18 @@ use Rattle.gaussian_core.proofs.Tables.{rising-other}
 use Rattle.cdt.proofs.cdt_table_ok.Statement.{statement}
 use Rattle.cdt.proofs.cdt_table_ok.Tie as tie
 
-returns : tie.Need-returns
+returns : tie.Need-returns-then-maximum_magnitude-gt18446744073709551613
 returns c =
     let a = c.before.before.args in
     sym (rising-other (a.maximum-magnitude + 2) (2 ^ 64 - 1) a.bounds.now (λ e. omega arith))
 
-add-rising-ok : tie.Need-overflow-add-rising-ok
+add-rising-ok : tie.Need-overflow_add-maximum_magnitude
 add-rising-ok c = search rules
 
-rising-ok-requires : tie.Need-rising-ok-requires
+rising-ok-requires : tie.Need-rising_ok-requires
 rising-ok-requires c κs = search rules
 
-returns-2 : tie.Need-returns-2
+returns-2 : tie.Need-returns
 returns-2 c = search rules
 
 pub cdt_table_ok_spec : {M : Type 1} → statement M

@@ -10,25 +10,25 @@ use Rattle.centered_binomial.proofs.Counting.{upper_fits}
 use Rattle.centered_binomial.proofs.upper_mask.Statement.{statement}
 use Rattle.centered_binomial.proofs.upper_mask.Tie as tie
 
-is-made-requires : tie.Need-is-made-requires
+is-made-requires : tie.Need-is_made-requires
 is-made-requires c κs = search rules
 
-returns : tie.Need-returns
-returns c = rw (sym c.before.is_made.ensures ∙ not-true c.before.is_made.result c.if1.true)
+returns : tie.Need-returns-then-not-is_made
+returns c = rw (sym c.before.is_made.ensures ∙ not-true c.before.is_made.result c.if-not-is_made.true)
 
 -- past the test the parameters are those that making gives
-made : (c : tie.Else1) → is_made_binomial c.before.before.args.parameters ≡ true
-made c = sym c.before.is_made.ensures ∙ not-false c.before.is_made.result c.if1.false
+made : (c : tie.Else-not-is_made) → is_made_binomial c.before.before.args.parameters ≡ true
+made c = sym c.before.is_made.ensures ∙ not-false c.before.is_made.result c.if-not-is_made.false
 
-cast-result : tie.Need-overflow-cast-result
+cast-result : tie.Need-overflow_cast-result
 cast-result c = search rules
 
-shl-result : tie.Need-overflow-shl-result
+shl-result : tie.Need-overflow_shl-result
 shl-result c =
     let args = c.before.before.before.before.args in
     omega (arith, made-small args.parameters (made c.before.before))
 
-returns-2 : tie.Need-returns-2
+returns-2 : tie.Need-returns
 returns-2 c = let s = c.before.before in rw (made s) (upper_fits s.before.before.args.parameters (made s))
 
 pub upper_mask_spec : {M : Type 1} → statement M

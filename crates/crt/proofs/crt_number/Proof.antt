@@ -25,22 +25,22 @@ unfolding first_of
 nothing-between zero ns = refl
 nothing-between (suc a) ns = refl
 
-returns : tie.Need-returns
+returns : tie.Need-returns-then-has_shape
 returns c =
     let asked = c.before in
     let at = asked.before in
     let a = at.before.before.before.args in
     let shaped : shape_number a.n a.coefficient-count (length a.moduli.now) ≡ 0 =
-    shape_good a.n _ _ (omega arith) (sym at.before.has-shape.ensures ∙ at.if1.true) in
-    c.draw-number.ensures
-    ∙ rw (asked.moduli-number.ensures, shaped) (last-joined (past_end a.words a.place) (too_long a.n) _ ∙ nothing-between (past_end a.words a.place) _)
+    shape_good a.n _ _ (omega arith) (sym at.before.has_shape.ensures ∙ at.if-has_shape.true) in
+    c.draw_number.ensures
+    ∙ rw (asked.moduli_number-asked.ensures, shaped) (last-joined (past_end a.words a.place) (too_long a.n) _ ∙ nothing-between (past_end a.words a.place) _)
 
-returns-2 : tie.Need-returns-2
+returns-2 : tie.Need-returns
 returns-2 c =
     let at = c.before in
     let a = at.before.before.before.args in
-    c.draw-number2.ensures
-    ∙ rw (shape_bad a.n _ _ (sym at.before.has-shape.ensures ∙ at.if1.false)) (shape-first (past_end a.words a.place) _)
+    c.draw_number-2.ensures
+    ∙ rw (shape_bad a.n _ _ (sym at.before.has_shape.ensures ∙ at.if-has_shape.false)) (shape-first (past_end a.words a.place) _)
 
 pub crt_number_spec : {M : Type 1} → statement M
 crt_number_spec =

@@ -5,14 +5,14 @@ use Rattle.crt.proofs.crt_row.Statement.{statement}
 use Rattle.crt.proofs.crt_row.Tie as tie
 
 -- the range lies within the output
-inside : (c : tie.After-crt-row-range) → c.crt-row-range.result.end ≤ length c.before.before.args.output.now
-inside c = range_inside _ _ _ _ c.crt-row-range.ensures
+inside : (c : tie.After-crt_row_range-row) → c.crt_row_range-row.result.end ≤ length c.before.before.args.output.now
+inside c = range_inside _ _ _ _ c.crt_row_range-row.ensures
 
 part-result-start : tie.Need-slice-bounds-result-start
-part-result-start c = let a = c.before.before.args in range_order (length a.output.now) a.coefficient-count a.moduli-count a.i c.crt-row-range.ensures
+part-result-start c = let a = c.before.before.args in range_order (length a.output.now) a.coefficient-count a.moduli-count a.i c.crt_row_range-row.ensures
 
 returns : tie.Need-returns
-returns c = part-row _ _ _ _ _ c.before.crt-row-range.ensures (record { contents = refl; block = refl; offset = omega arith })
+returns c = part-row _ _ _ _ _ c.before.crt_row_range-row.ensures (record { contents = refl; block = refl; offset = omega arith })
 
 pub crt_row_spec : {M : Type 1} → statement M
 crt_row_spec =

@@ -4,18 +4,18 @@ use Rattle.crt.proofs.Finishing.{finished-rows, finished-zeros, finished-kept}
 use Rattle.crt.proofs.finish.Statement.{statement}
 use Rattle.crt.proofs.finish.Tie as tie
 
-returns : tie.Need-returns
+returns : tie.Need-returns-then-number-eq0
 returns c =
     let called = c.before.before in
-    (finished-rows _ _ _ _ _ _ _ called.before.before.if1.true called.spread-rows.ensures, refl)
+    (finished-rows _ _ _ _ _ _ _ called.before.before.if-number-eq0.true called.spread_rows.ensures, refl)
 
-returns-2 : tie.Need-returns-2
+returns-2 : tie.Need-returns-then-number-eq-OUT_OF_WORDS
 returns-2 c =
     let called = c.before.before in
-    (finished-zeros _ _ _ _ _ _ _ called.before.before.if2.true called.clear.ensures, refl)
+    (finished-zeros _ _ _ _ _ _ _ called.before.before.if-number-eq-OUT_OF_WORDS.true called.clear.ensures, refl)
 
-returns-3 : tie.Need-returns-3
-returns-3 c = (finished-kept _ _ _ _ _ _ _ c.before.if1.false c.if2.false refl, refl)
+returns-3 : tie.Need-returns-else-number-eq-OUT_OF_WORDS
+returns-3 c = (finished-kept _ _ _ _ _ _ _ c.before.if-number-eq0.false c.if-number-eq-OUT_OF_WORDS.false refl, refl)
 
 pub finish_spec : {M : Type 1} → statement M
 finish_spec =

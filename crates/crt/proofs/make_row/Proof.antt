@@ -5,49 +5,49 @@ use Rattle.crt.proofs.RowMaking.{Made, made_none, made_more, made-length}
 use Rattle.crt.proofs.make_row.Statement.{statement}
 use Rattle.crt.proofs.make_row.Tie as tie
 
-abbrev invariant-loop : tie.invariant-loop
-invariant-loop output₀ at last modulus count c₀ output c =
+abbrev invariant-loop-c : tie.invariant-loop-c
+invariant-loop-c output₀ at last modulus count c₀ output c =
     (c ≤ count) × (before : at ≤ last) × (inside : last ≤ length output₀) × Made (from_native modulus) output₀ at last before inside c output
 
-abbrev decreases-loop : tie.decreases-loop
-decreases-loop output₀ at last modulus count c₀ output c = count - c
+abbrev decreases-loop-c : tie.decreases-loop-c
+decreases-loop-c output₀ at last modulus count c₀ output c = count - c
 
-loop-holds : tie.Need-loop-init invariant-loop decreases-loop
+loop-holds : tie.Need-loop-c-init invariant-loop-c decreases-loop-c
 loop-holds c = (omega arith, c.before.requires.0, c.before.requires.1, made_none _ _ _ _ _ _)
 
-mul-word : tie.Need-overflow-mul-word invariant-loop decreases-loop
+mul-word : tie.Need-offset_bounds-output-last invariant-loop-c decreases-loop-c
 mul-word c =
-    let loop = c.before.loop in
+    let loop = c.before.loop-c in
     omega (arith, made-length _ _ _ _ _ _ (omega arith) loop.invariant.3)
 
-slice-read-word : tie.Need-slice-read-word invariant-loop decreases-loop
+slice-read-word : tie.Need-bounds-output-last invariant-loop-c decreases-loop-c
 slice-read-word c =
-    let loop = c.before.before.loop in
+    let loop = c.before.before.loop-c in
     omega (arith, made-length _ _ _ _ _ _ (omega arith) loop.invariant.3)
 
-mul-output : tie.Need-overflow-mul-output invariant-loop decreases-loop
+mul-output : tie.Need-offset_bounds-output-at invariant-loop-c decreases-loop-c
 mul-output c =
-    let loop = c.before.before.before.loop in
+    let loop = c.before.before.before.loop-c in
     omega (arith, made-length _ _ _ _ _ _ (omega arith) loop.invariant.3)
 
-slice-write-output : tie.Need-slice-write-output invariant-loop decreases-loop
+slice-write-output : tie.Need-bounds-output-at invariant-loop-c decreases-loop-c
 slice-write-output c =
-    let loop = c.before.before.before.loop in
+    let loop = c.before.before.before.loop-c in
     omega (arith, made-length _ _ _ _ _ _ (omega arith) loop.invariant.3)
 
-loop-again : tie.Need-loop-preserved invariant-loop decreases-loop
+loop-again : tie.Need-loop-c-preserved invariant-loop-c decreases-loop-c
 loop-again c =
-    let loop = c.before.before.before.loop in
-    (omega arith, loop.invariant.1, loop.invariant.2, made_more _ _ _ _ _ _ 0 _ (omega arith) loop.invariant.3 c.from-native.ensures)
+    let loop = c.before.before.before.loop-c in
+    (omega arith, loop.invariant.1, loop.invariant.2, made_more _ _ _ _ _ _ 0 _ (omega arith) loop.invariant.3 c.from_native.ensures)
 
-same_length : tie.Need-same-length invariant-loop decreases-loop
-same_length c = made-length _ _ _ _ _ _ c.before.loop.invariant.0 c.before.loop.invariant.3
+same_length : tie.Need-shape_of-output invariant-loop-c decreases-loop-c
+same_length c = made-length _ _ _ _ _ _ c.before.loop-c.invariant.0 c.before.loop-c.invariant.3
 
-returns : tie.Need-returns invariant-loop decreases-loop
-returns c = rw (le_antisymm c.loop-test.false c.before.loop.invariant.0) c.before.loop.invariant.3.holds
+returns : tie.Need-returns invariant-loop-c decreases-loop-c
+returns c = rw (le_antisymm c.loop-c-test.false c.before.loop-c.invariant.0) c.before.loop-c.invariant.3.holds
 
 pub make_row_spec : {M : Type 1} → statement M
 make_row_spec =
     tie.close
-    (tie.spec invariant-loop decreases-loop (λ c. omega arith) loop-holds (λ c. omega arith) mul-word slice-read-word (λ c κs. search rules) (λ c. omega arith)
+    (tie.spec invariant-loop-c decreases-loop-c (λ c. omega arith) loop-holds (λ c. omega arith) mul-word slice-read-word (λ c κs. search rules) (λ c. omega arith)
     mul-output slice-write-output (λ c. omega arith) (λ c. omega arith) loop-again same_length returns)

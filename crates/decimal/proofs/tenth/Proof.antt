@@ -11,7 +11,7 @@ use Rattle.decimal.proofs.tenth.Tie as tie
 digit-fits : {a b : ℕ} → a < 10 → b < 2 ^ 32 → a * 2 ^ 32 + b < 2 ^ 64
 digit-fits h l = omega arith
 
-add-upper : tie.Need-overflow-add-upper
+add-upper : tie.Need-overflow_add-upper
 add-upper c = record { fits = digit-fits (mod-lt c.args.high (omega arith)) ((div-lt_iff_lt-mul (omega arith)).1 c.ranges.low.fits) }
 
 returns : tie.Need-returns

@@ -8,12 +8,12 @@ use Rattle.decimal.proofs.Halves.{digits_fit}
 use Rattle.decimal.proofs.write_halves.Statement.{statement}
 use Rattle.decimal.proofs.write_halves.Tie as tie
 
-write-digits-requires : tie.Need-write-digits-requires
+write-digits-requires : tie.Need-write_digits-requires
 write-digits-requires c κs = omega (arith, digits_fit c.before.ranges.high.fits c.before.ranges.low.fits)
 
 returns : tie.Need-returns
 returns c =
-    let called = c.write-digits in
+    let called = c.write_digits in
     let inside : called.result ≤ length called.new.1.1.0 =
     omega (arith, ap (λ p. p.0) called.ensures, called.auto.1.1.0, write-digits-requires c.before called.lifetimes) in
     (called.ensures, (inside, sym (length-take-le _ _ inside)))

@@ -13,22 +13,22 @@ use Rattle.desk.proofs.Requests.{Good, good}
 use Rattle.desk.proofs.draw_bytes.Statement.{statement}
 use Rattle.desk.proofs.draw_bytes.Tie as tie
 
-fits : (c : tie.After-words-room) → let a = c.before.before.before.args in Good (length a.words.now) (length a.output.now)
+fits : (c : tie.After-words_room-store) → let a = c.before.before.before.args in Good (length a.words.now) (length a.output.now)
 fits c = good _ _ c.before.before.before.requires
 
 -- the room has as many words as the bytes hold
-sized : (c : tie.After-words-room) → let n = length c.before.before.before.args.words.now / 4 in n ≡ length (take n c.words-room.result)
+sized : (c : tie.After-words_room-store) → let n = length c.before.before.before.args.words.now / 4 in n ≡ length (take n c.words_room-store.result)
 sized c =
     let n = length c.before.before.before.args.words.now / 4 in
-    omega (arith, length-take-le n c.words-room.result (omega (arith, (fits c).few_words, c.words-room.ensures)))
+    omega (arith, length-take-le n c.words_room-store.result (omega (arith, (fits c).few_words, c.words_room-store.ensures)))
 
 -- and holds those
-decoded : (c : tie.After-read-words) → c.read-words.new.0 ≡ words_in c.before.before.before.before.before.before.args.words.now
+decoded : (c : tie.After-read_words) → c.read_words.new.0 ≡ words_in c.before.before.before.before.before.before.args.words.now
 decoded c =
     let room = c.before.before.before in
     let words = room.before.before.before.args.words.now in
-    let many : length words ≡ 4 * length (take (length words / 4) room.words-room.result) = omega (arith, (fits room).whole_words, sized room) in
-    c.read-words.ensures ∙ rw (eq-eqb _ _ many)
+    let many : length words ≡ 4 * length (take (length words / 4) room.words_room-store.result) = omega (arith, (fits room).whole_words, sized room) in
+    c.read_words.ensures ∙ rw (eq-eqb _ _ many)
 
 draw-requires : tie.Need-draw-requires
 draw-requires c κs =
@@ -46,5 +46,5 @@ returns c =
 pub draw_bytes_spec : {M : Type 1} → statement M
 draw_bytes_spec =
     tie.close
-    (tie.spec (λ c κs. search rules) (λ c. omega (arith, (fits c).few_words, c.words-room.ensures)) (λ c. sized c.before) (λ c κs. search rules)
+    (tie.spec (λ c κs. search rules) (λ c. omega (arith, (fits c).few_words, c.words_room-store.ensures)) (λ c. sized c.before) (λ c κs. search rules)
     draw-requires (λ c. search rules) returns)

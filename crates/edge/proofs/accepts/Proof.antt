@@ -5,17 +5,17 @@ use borrow.Author.Rules.{rules}
 use Rattle.edge.proofs.accepts.Statement.{statement}
 use Rattle.edge.proofs.accepts.Tie as tie
 
-returns : tie.Need-returns
+returns : tie.Need-returns-then-layer-deviation
 unfolding accepts_on round of_bits
-returns c = rw (c.before.if1.true, c.line.ensures)
+returns c = rw (c.before.if-layer-deviation.true, c.line.ensures)
 
-returns-2 : tie.Need-returns-2
+returns-2 : tie.Need-returns-then-deviation-layer
 unfolding accepts_on round of_bits
-returns-2 c = rw (c.before.before.before.if1.false, c.before.if2.true, c.line2.ensures)
+returns-2 c = rw (c.before.before.before.if-layer-deviation.false, c.before.if-deviation-layer.true, c.line-then-deviation-layer.ensures)
 
-returns-3 : tie.Need-returns-3
+returns-3 : tie.Need-returns-else-deviation-layer
 unfolding accepts_on round of_bits
-returns-3 c = rw (c.before.before.if1.false, c.if2.false)
+returns-3 c = rw (c.before.before.if-layer-deviation.false, c.if-deviation-layer.false)
 
 pub accepts_spec : {M : Type 1} → statement M
 accepts_spec =

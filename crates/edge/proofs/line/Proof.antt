@@ -8,13 +8,13 @@ use Rattle.edge.proofs.line.Tie as tie
 slope-requires : tie.Need-slope-requires
 slope-requires c κs = search rules
 
-returns : tie.Need-returns
+returns : tie.Need-returns-then-layer
 unfolding line_of round of_bits
-returns c = rw c.if1.true
+returns c = rw c.if-layer.true
 
-returns-2 : tie.Need-returns-2
+returns-2 : tie.Need-returns-else-layer
 unfolding line_of
-returns-2 c = rw (c.before.before.if1.false, c.before.slope.ensures)
+returns-2 c = rw (c.before.before.if-layer.false, c.before.slope.ensures)
 
 pub line_spec : {M : Type 1} → statement M
 line_spec = tie.close (tie.spec slope-requires returns returns-2)

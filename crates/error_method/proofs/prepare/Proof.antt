@@ -5,15 +5,15 @@ use borrow.Author.Rules.{rules}
 use Rattle.error_method.proofs.prepare.Statement.{statement}
 use Rattle.error_method.proofs.prepare.Tie as tie
 
-returns : tie.Need-returns
+returns : tie.Need-returns-in-Gaussian
 returns c =
-    let d = c.before.before.before.before.distribution.given in
-    rw d.1 (c.judged.ensures ∙ rw c.before.before.new-parameters.ensures (prepares_gaussian d.0.0))
+    let d = c.before.before.before.before.distribution-1.given in
+    rw d.1 (c.judged.ensures ∙ rw c.before.before.new_parameters-made.ensures (prepares_gaussian d.0.0))
 
-returns-2 : tie.Need-returns-2
+returns-2 : tie.Need-returns-in-CenteredBinomial
 returns-2 c =
-    let d = c.before.before.before.before.distribution2.given in
-    rw d.1 (c.judged2.ensures ∙ rw c.before.before.new.ensures (prepares_binomial d.0.0))
+    let d = c.before.before.before.before.distribution-in-CenteredBinomial-1.given in
+    rw d.1 (c.judged-in-CenteredBinomial.ensures ∙ rw c.before.before.new-made.ensures (prepares_binomial d.0.0))
 
 pub prepare_spec : {M : Type 1} → statement M
 prepare_spec =

@@ -24,13 +24,13 @@ nan-bits : (b : ℕ) → nan_bits binary64 b ≡ true → of_bits binary64 b ≡
 unfolding nan_bits of_bits
 nan-bits b e = nan-fields (leb (2 ^ 63) b) (b % 2 ^ 63 / 2 ^ 52) (b % 2 ^ 52) e
 
-returns : tie.Need-returns
+returns : tie.Need-returns-then-exponent-digits
 unfolding div of_bits nan_bits
-returns c = sym (nan-bits c.before.args.bits c.if1.true)
+returns c = sym (nan-bits c.before.args.bits c.if-exponent-digits.true)
 
-float-from-bits-result : tie.Need-float-from-bits-result
+float-from-bits-result : tie.Need-float_from_bits-result
 unfolding nan_bits
-float-from-bits-result c = rw c.if1.false tt
+float-from-bits-result c = rw c.if-exponent-digits.false tt
 
 pub f64_of_bits_spec : {M : Type 1} → statement M
 f64_of_bits_spec = tie.close (tie.spec returns float-from-bits-result (λ c. search rules))

@@ -9,27 +9,27 @@ use Rattle.layer_tables.proofs.Judging.{Paired, pair_more, pair_all}
 use Rattle.layer_tables.proofs.falls.Statement.{statement}
 use Rattle.layer_tables.proofs.falls.Tie as tie
 
-abbrev invariant-loop : tie.invariant-loop
-invariant-loop xs ok₀ i₀ ok i = Paired falls ok i xs
+abbrev invariant-loop-i : tie.invariant-loop-i
+invariant-loop-i xs ok₀ i₀ ok i = Paired falls ok i xs
 
-abbrev decreases-loop : tie.decreases-loop
-decreases-loop xs ok₀ i₀ ok i = length xs - i
+abbrev decreases-loop-i : tie.decreases-loop-i
+decreases-loop-i xs ok₀ i₀ ok i = length xs - i
 
-loop-holds : tie.Need-loop-init invariant-loop decreases-loop
+loop-holds : tie.Need-loop-i-init invariant-loop-i decreases-loop-i
 loop-holds c = (omega arith, refl)
 
-loop-again : tie.Need-loop-preserved invariant-loop decreases-loop
+loop-again : tie.Need-loop-i-preserved invariant-loop-i decreases-loop-i
 unfolding falls
 loop-again c =
-    let l = c.before.before.before.loop in
-    pair_more falls refl (λ a b. lt b a) (λ x y xs. refl) l.ok _ _ nan c.before.before.loop-test.true l.invariant
+    let l = c.before.before.before.loop-i in
+    pair_more falls refl (λ a b. lt b a) (λ x y xs. refl) l.ok _ _ nan c.before.before.loop-i-test.true l.invariant
 
-returns : tie.Need-returns invariant-loop decreases-loop
+returns : tie.Need-returns invariant-loop-i decreases-loop-i
 unfolding falls
-returns c = pair_all falls refl (λ x. refl) _ _ _ c.loop-test.false c.before.loop.invariant
+returns c = pair_all falls refl (λ x. refl) _ _ _ c.loop-i-test.false c.before.loop-i.invariant
 
 pub falls_spec : {M : Type 1} → statement M
 falls_spec =
     tie.close
-    (tie.spec invariant-loop decreases-loop loop-holds (λ c. omega arith) (λ c. omega arith) (λ c. omega arith) (λ c. omega arith) (λ c. omega arith)
+    (tie.spec invariant-loop-i decreases-loop-i loop-holds (λ c. omega arith) (λ c. omega arith) (λ c. omega arith) (λ c. omega arith) (λ c. omega arith)
     (λ c. omega arith) (λ c. omega arith) loop-again returns)

@@ -10,23 +10,23 @@ use borrow.Author.Rules.{rules}
 use Rattle.layer_tables.proofs.heights_ok.Statement.{statement}
 use Rattle.layer_tables.proofs.heights_ok.Tie as tie
 
-returns : tie.Need-returns
+returns : tie.Need-returns-then-n-eq0
 returns c =
     let a = c.before.before.args in
     rw (ne_eqb (length a.heights.now) (a.layers + 1) (λ e. omega arith))
 
-returns-2 : tie.Need-returns-2
+returns-2 : tie.Need-returns-then-n-layers
 returns-2 c =
     let a = c.before.before.before.args in
-    rw (ne_eqb (length a.heights.now) (a.layers + 1) (λ e. c.if2.true (omega arith)))
+    rw (ne_eqb (length a.heights.now) (a.layers + 1) (λ e. c.if-n-layers.true (omega arith)))
 
-returns-3 : tie.Need-returns-3
+returns-3 : tie.Need-returns
 unfolding round of_bits
 returns-3 c =
     let a = c.before.before.before.before.before.before.before.args in
     let hs = a.heights.now in
     rw (
-      c.before.before.before.all-finite.ensures,
+      c.before.before.before.all_finite.ensures,
       c.before.before.falls.ensures,
       eq-eqb (length hs) (a.layers + 1) (omega arith),
       get_d_there hs 0 (literal 0 1) nan (omega arith),

@@ -7,20 +7,20 @@ use borrow.Author.Rules.{rules}
 use Rattle.layer_tables.proofs.layer_tables_ok.Statement.{statement}
 use Rattle.layer_tables.proofs.layer_tables_ok.Tie as tie
 
-returns : tie.Need-returns
+returns : tie.Need-returns-then-n-eq0
 returns c =
-    rw c.if1.true
+    rw c.if-n-eq0.true
 
-returns-2 : tie.Need-returns-2
+returns-2 : tie.Need-returns-then-layers
 returns-2 c =
     let a = c.before.before.before.before.before.before.before.before.args in
     let n = length a.endpoints.now in
     let same : n - 1 + 1 ≡ n = omega arith in
-    rw (c.before.before.rising-ok.ensures, c.before.heights-ok.ensures, c.curve-ok.ensures, c.before.before.before.if2.true, same)
+    rw (c.before.before.rising_ok.ensures, c.before.heights_ok.ensures, c.curve_ok.ensures, c.before.before.before.if-layers.true, same)
 
-returns-3 : tie.Need-returns-3
+returns-3 : tie.Need-returns-else-layers
 returns-3 c =
-    rw c.if2.false
+    rw c.if-layers.false
 
 pub layer_tables_ok_spec : {M : Type 1} → statement M
 layer_tables_ok_spec =

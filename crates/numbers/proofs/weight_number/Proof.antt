@@ -5,13 +5,13 @@ use native.Mathlib.Omega.{arith}
 use Rattle.numbers.proofs.weight_number.Statement.{statement}
 use Rattle.numbers.proofs.weight_number.Tie as tie
 
-returns : tie.Need-returns
+returns : tie.Need-returns-then-length-first
 returns c = rw (lt-ltb c.before.args.length (c.before.args.first + c.before.args.second) (omega arith))
 
-returns-2 : tie.Need-returns-2
+returns-2 : tie.Need-returns-then-length-first-2
 returns-2 c = rw (lt-ltb c.before.before.args.length (c.before.before.args.first + c.before.before.args.second) (omega arith))
 
-returns-3 : tie.Need-returns-3
+returns-3 : tie.Need-returns-else-length-first-2
 returns-3 c =
     let start = c.before.before in
     rw (

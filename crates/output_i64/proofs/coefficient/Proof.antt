@@ -10,10 +10,10 @@ use borrow.Author.Tests.{lt-ltb, le-ltb}
 use Rattle.output_i64.proofs.coefficient.Statement.{statement}
 use Rattle.output_i64.proofs.coefficient.Tie as tie
 
-returns : tie.Need-returns
+returns : tie.Need-returns-then-magnitude-gt9223372036854775807
 returns c = rw (le-ltb c.before.args.magnitude (2 ^ 63) (omega arith))
 
-cast-value : tie.Need-overflow-cast-value
+cast-value : tie.Need-overflow_cast-value
 cast-value c = search rules
 
 -- Either sign of a magnitude below 2^63 fits.
@@ -21,23 +21,23 @@ negation-fits : (m : ℕ) → m < 2 ^ 63 → SFits w64 (neg_ℤ (pos m))
 negation-fits zero h = sfits_lit tt
 negation-fits (suc m) h = record { sfits = omega arith }
 
-sub-result : tie.Need-overflow-sub-result
+sub-result : tie.Need-overflow_sub-result
 sub-result c =
     let m = c.before.before.args.magnitude in
     let small : m < 2 ^ 63 = omega arith in
     rw (to_z_pos w64 small, +ℤ_idl (neg_ℤ (pos m))) (negation-fits m small)
 
-returns-2 : tie.Need-returns-2
+returns-2 : tie.Need-returns-then-positive
 returns-2 c =
     let m = c.before.before.args.magnitude in
     let small : m < 2 ^ 63 = omega arith in
-    rw (to_z_pos w64 small, lt-ltb m (2 ^ 63) small, c.if2.true)
+    rw (to_z_pos w64 small, lt-ltb m (2 ^ 63) small, c.if-positive.true)
 
-returns-3 : tie.Need-returns-3
+returns-3 : tie.Need-returns-else-positive
 returns-3 c =
     let m = c.before.before.args.magnitude in
     let small : m < 2 ^ 63 = omega arith in
-    rw (to_z_pos w64 small, +ℤ_idl (neg_ℤ (pos m)), to_z-of_z (negation-fits m small), lt-ltb m (2 ^ 63) small, c.if2.false)
+    rw (to_z_pos w64 small, +ℤ_idl (neg_ℤ (pos m)), to_z-of_z (negation-fits m small), lt-ltb m (2 ^ 63) small, c.if-positive.false)
 
 pub coefficient_spec : {M : Type 1} → statement M
 coefficient_spec = tie.close (tie.spec returns cast-value sub-result returns-2 returns-3)

@@ -31,13 +31,13 @@ module _ {x y : ℕ} (h : x < 2 ^ 32) (l : y < 2 ^ 32) where
   fits : SFits w64 (pos x -ℤ pos y)
   fits = sfits_of (small x y (2 ^ 63) (omega arith) (omega arith))
 
-cast-result : tie.Need-overflow-cast-result
+cast-result : tie.Need-overflow_cast-result
 cast-result c = search rules
 
-cast-result-2 : tie.Need-overflow-cast-result-2
+cast-result-2 : tie.Need-overflow_cast-result-2
 cast-result-2 c = search rules
 
-sub-result : tie.Need-overflow-sub-result
+sub-result : tie.Need-overflow_sub-result
 sub-result c = let f = c.ranges in rw (first f.first.fits f.second.fits, second f.first.fits f.second.fits) (fits f.first.fits f.second.fits)
 
 returns : tie.Need-returns

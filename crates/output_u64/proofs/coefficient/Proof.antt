@@ -27,25 +27,25 @@ not_none true m h = absurd (true≢false h)
 not_none false zero h = absurd (true≢false h)
 not_none false (suc m) h = zero-lt-suc m
 
-add-result : tie.Need-overflow-add-result
+add-result : tie.Need-overflow_add-result
 add-result c =
     let a = c.before.before.args in
-    omega (arith, not_none a.positive a.magnitude c.before.if1.false)
+    omega (arith, not_none a.positive a.magnitude c.before.if-positive-magnitude.false)
 
-returns : tie.Need-returns
-returns c = let a = c.before.args in stays a.positive a.magnitude a.encoding.minus_one c.if1.true
+returns : tie.Need-returns-then-positive-magnitude
+returns c = let a = c.before.args in stays a.positive a.magnitude a.encoding.minus_one c.if-positive-magnitude.true
 
-returns-2 : tie.Need-returns-2
+returns-2 : tie.Need-returns-then-minus_one-magnitude
 returns-2 c =
     let a = c.before.before.args in
     let below : 0 ≡ a.encoding.minus_one + 1 - a.magnitude = omega arith in
-    below ∙ wraps a.positive a.magnitude a.encoding.minus_one c.before.if1.false
+    below ∙ wraps a.positive a.magnitude a.encoding.minus_one c.before.if-positive-magnitude.false
 
-returns-3 : tie.Need-returns-3
+returns-3 : tie.Need-returns-else-minus_one-magnitude
 returns-3 c =
     let a = c.before.before.args in
     let moved : a.encoding.minus_one - a.magnitude + 1 ≡ a.encoding.minus_one + 1 - a.magnitude = omega arith in
-    moved ∙ wraps a.positive a.magnitude a.encoding.minus_one c.before.if1.false
+    moved ∙ wraps a.positive a.magnitude a.encoding.minus_one c.before.if-positive-magnitude.false
 
 pub coefficient_spec : {M : Type 1} → statement M
 coefficient_spec = tie.close (tie.spec add-result returns returns-2 returns-3)

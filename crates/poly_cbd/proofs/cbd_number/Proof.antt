@@ -5,17 +5,17 @@ use Rattle.distr.specs.SamplePolyCbd.{cbd_number}
 use Rattle.poly_cbd.proofs.cbd_number.Statement.{statement}
 use Rattle.poly_cbd.proofs.cbd_number.Tie as tie
 
-returns : tie.Need-returns
+returns : tie.Need-returns-then-not-eta
 unfolding first_of cbd_number
-returns c = rw c.if1.true
+returns c = rw c.if-not-eta.true
 
-returns-2 : tie.Need-returns-2
+returns-2 : tie.Need-returns-then-byte_length-eta
 unfolding first_of cbd_number
-returns-2 c = rw (c.before.if1.false, c.if2.true)
+returns-2 c = rw (c.before.if-not-eta.false, c.if-byte_length-eta.true)
 
-returns-3 : tie.Need-returns-3
+returns-3 : tie.Need-returns
 unfolding first_of cbd_number
-returns-3 c = rw (c.before.if1.false, c.if2.false)
+returns-3 c = rw (c.before.if-not-eta.false, c.if-byte_length-eta.false)
 
 pub cbd_number_spec : {M : Type 1} → statement M
 cbd_number_spec = tie.close (tie.spec returns (λ c. search rules) returns-2 returns-3)

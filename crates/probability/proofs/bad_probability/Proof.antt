@@ -4,7 +4,7 @@ use Rattle.std.proofs.Common.{rules}
 use Rattle.probability.proofs.bad_probability.Statement.{statement}
 use Rattle.probability.proofs.bad_probability.Tie as tie
 
-is-finite-requires : tie.Need-is-finite-requires
+is-finite-requires : tie.Need-is_finite-requires
 is-finite-requires c κs = search rules
 
 returns : tie.Need-returns

@@ -4,13 +4,13 @@ use Rattle.std.proofs.Common.{rules}
 use Rattle.probability.proofs.check_ternary_probabilities.Statement.{statement}
 use Rattle.probability.proofs.check_ternary_probabilities.Tie as tie
 
-returns : tie.Need-returns
+returns : tie.Need-returns-then-bad_probability-negative
 unfolding of_bits round
-returns c = rw (← c.before.before.bad-probability.ensures, ← c.before.bad-probability2.ensures, c.if1.true)
+returns c = rw (← c.before.before.bad_probability.ensures, ← c.before.bad_probability-2.ensures, c.if-bad_probability-negative.true)
 
-returns-2 : tie.Need-returns-2
+returns-2 : tie.Need-returns-else-bad_probability-negative
 unfolding of_bits round
-returns-2 c = rw (← c.before.before.bad-probability.ensures, ← c.before.bad-probability2.ensures, c.if1.false)
+returns-2 c = rw (← c.before.before.bad_probability.ensures, ← c.before.bad_probability-2.ensures, c.if-bad_probability-negative.false)
 
 pub check_ternary_probabilities_spec : {M : Type 1} → statement M
 check_ternary_probabilities_spec =

@@ -8,39 +8,39 @@ use Rattle.residue_text.proofs.Inputs.{bad_handed, input_none, input-some}
 use Rattle.residue_text.proofs.read_input.Statement.{statement}
 use Rattle.residue_text.proofs.read_input.Tie as tie
 
-slice-aggregate-read-modulus : tie.Need-slice-aggregate-read-modulus
-slice-aggregate-read-modulus c = sym (length-take-le _ _ c.before.first-line.ensures.inside)
+slice-aggregate-read-modulus : tie.Need-slice_bounds-read_modulus-end
+slice-aggregate-read-modulus c = sym (length-take-le _ _ c.before.first_line-line.ensures.inside)
 
-returns : tie.Need-returns
+returns : tie.Need-returns-then-modulus-eq0
 returns c =
     let read = c.before.before in
     let line = read.before.before in
     let a = line.before.before.before.before.args in
     bad_handed c.bad.result a.limits.now a.residues.now c.bad.ensures
-    (input_none a.text.now a.limits.now a.residues.now _ line.first-line.ensures.line _ _ read.read-modulus.ensures.0
-    read.read-modulus.ensures.1 c.before.if1.true)
+    (input_none a.text.now a.limits.now a.residues.now _ line.first_line-line.ensures.line _ _ read.read_modulus-first.ensures.0
+    read.read_modulus-first.ensures.1 c.before.if-modulus-eq0.true)
 
-returns-2 : tie.Need-returns-2
+returns-2 : tie.Need-returns-then-first
 returns-2 c =
     let read = c.before.before.before in
     let line = read.before.before in
     let a = line.before.before.before.before.args in
-    bad_handed c.bad2.result a.limits.now a.residues.now c.bad2.ensures
-    (input-some a.text.now a.limits.now a.residues.now _ line.first-line.ensures.line _ _ read.read-modulus.ensures.0
-    read.read-modulus.ensures.1 c.before.before.if1.false true c.before.if2.true)
+    bad_handed c.bad-then-first.result a.limits.now a.residues.now c.bad-then-first.ensures
+    (input-some a.text.now a.limits.now a.residues.now _ line.first_line-line.ensures.line _ _ read.read_modulus-first.ensures.0
+    read.read_modulus-first.ensures.1 c.before.before.if-modulus-eq0.false true c.before.if-first.true)
 
-returns-3 : tie.Need-returns-3
+returns-3 : tie.Need-returns
 returns-3 c =
     let rest = c.before.before.before.before in
     let test = rest.before.before.before.before in
     let read = test.before.before in
     let line = read.before.before in
     let a = line.before.before.before.before.args in (
-      rest.read-rest.ensures.0
-          ∙ rw (lined_after line.first-line.ensures)
-          (input-some a.text.now a.limits.now a.residues.now _ line.first-line.ensures.line _ _ read.read-modulus.ensures.0
-          read.read-modulus.ensures.1 test.before.if1.false false test.if2.false),
-      rest.read-rest.ensures.1,
+      rest.read_rest.ensures.0
+          ∙ rw (lined_after line.first_line-line.ensures)
+          (input-some a.text.now a.limits.now a.residues.now _ line.first_line-line.ensures.line _ _ read.read_modulus-first.ensures.0
+          read.read_modulus-first.ensures.1 test.before.if-modulus-eq0.false false test.if-first.false),
+      rest.read_rest.ensures.1,
     )
 
 pub read_input_spec : {M : Type 1} → statement M

@@ -13,7 +13,7 @@ use Rattle.residue_text.proofs.read_modulus.Tie as tie
 returns : tie.Need-returns
 unfolding modulus_of
 returns c =
-    let told = c.before.read-numbers.ensures in
+    let told = c.before.read_numbers-read.ensures in
     let line = c.before.before.before.before.args.line.now in
     (rw told.1.0 (front-first (numbers_of 1 report_modulus_limit (tokens line))), ap (λ (n : Numbers). n.more) told.0)
 

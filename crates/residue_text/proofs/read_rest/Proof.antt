@@ -9,40 +9,40 @@ use Rattle.residue_text.proofs.Inputs.{bad_handed, rest-limits, rest-residues}
 use Rattle.residue_text.proofs.read_rest.Statement.{statement}
 use Rattle.residue_text.proofs.read_rest.Tie as tie
 
-slice-aggregate-read-numbers : tie.Need-slice-aggregate-read-numbers
-slice-aggregate-read-numbers c = sym (length-take-le _ _ c.before.first-line.ensures.inside)
+slice-aggregate-read-numbers : tie.Need-slice_bounds-read_numbers-end
+slice-aggregate-read-numbers c = sym (length-take-le _ _ c.before.first_line-line.ensures.inside)
 
-returns : tie.Need-returns
+returns : tie.Need-returns-then-limits_read
 returns c =
     let read = c.before.before.before.before in
     let line = read.before.before.before in
     let a = line.before.before.before.before.args in
-    bad_handed c.bad.result read.read-numbers.new.1.1.0 a.residues.now c.bad.ensures
-    (rest-limits a.text.now a.limits.now a.residues.now _ line.first-line.ensures.line a.modulus read.read-numbers.result
-    read.read-numbers.new.1.1.0 read.read-numbers.ensures c.before.if1.true)
+    bad_handed c.bad.result read.read_numbers-limits_read.new.1.1.0 a.residues.now c.bad.ensures
+    (rest-limits a.text.now a.limits.now a.residues.now _ line.first_line-line.ensures.line a.modulus read.read_numbers-limits_read.result
+    read.read_numbers-limits_read.new.1.1.0 read.read_numbers-limits_read.ensures c.before.if-limits_read.true)
 
-returns-2 : tie.Need-returns-2
+returns-2 : tie.Need-returns-then-residues_read
 returns-2 c =
     let again = c.before.before.before.before in
     let test = again.before.before.before in
     let read = test.before.before.before in
     let line = read.before.before.before in
     let a = line.before.before.before.before.args in
-    bad_handed c.bad2.result read.read-numbers.new.1.1.0 again.read-numbers2.new.1.1.0 c.bad2.ensures
-    (rest-residues a.text.now a.limits.now a.residues.now _ line.first-line.ensures.line a.modulus read.read-numbers.result
-    read.read-numbers.new.1.1.0 read.read-numbers.ensures _ (lined_after line.first-line.ensures) again.read-numbers2.result
-    again.read-numbers2.new.1.1.0 again.read-numbers2.ensures test.if1.false true c.before.if2.true)
+    bad_handed c.bad-then-residues_read.result read.read_numbers-limits_read.new.1.1.0 again.read_numbers-residues_read.new.1.1.0 c.bad-then-residues_read.ensures
+    (rest-residues a.text.now a.limits.now a.residues.now _ line.first_line-line.ensures.line a.modulus read.read_numbers-limits_read.result
+    read.read_numbers-limits_read.new.1.1.0 read.read_numbers-limits_read.ensures _ (lined_after line.first_line-line.ensures) again.read_numbers-residues_read.result
+    again.read_numbers-residues_read.new.1.1.0 again.read_numbers-residues_read.ensures test.if-limits_read.false true c.before.if-residues_read.true)
 
-returns-3 : tie.Need-returns-3
+returns-3 : tie.Need-returns
 returns-3 c =
     let again = c.before.before.before in
     let test = again.before.before.before in
     let read = test.before.before.before in
     let line = read.before.before.before in
     let a = line.before.before.before.before.args in (
-      rest-residues a.text.now a.limits.now a.residues.now _ line.first-line.ensures.line a.modulus read.read-numbers.result
-          read.read-numbers.new.1.1.0 read.read-numbers.ensures _ (lined_after line.first-line.ensures) again.read-numbers2.result
-          again.read-numbers2.new.1.1.0 again.read-numbers2.ensures test.if1.false false c.if2.false,
+      rest-residues a.text.now a.limits.now a.residues.now _ line.first_line-line.ensures.line a.modulus read.read_numbers-limits_read.result
+          read.read_numbers-limits_read.new.1.1.0 read.read_numbers-limits_read.ensures _ (lined_after line.first_line-line.ensures) again.read_numbers-residues_read.result
+          again.read_numbers-residues_read.new.1.1.0 again.read_numbers-residues_read.ensures test.if-limits_read.false false c.if-residues_read.false,
       (omega arith, omega arith),
     )
 

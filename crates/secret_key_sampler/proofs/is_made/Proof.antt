@@ -9,7 +9,7 @@ use Rattle.secret_key_sampler.proofs.is_made.Tie as tie
 returns : tie.Need-returns
 returns c =
     let at = c.before.before.before.before in
-    rw (c.before.same_key.ensures, c.before.before.method-key2.ensures, c.before.before.before.method-key.ensures, at.prepare.ensures)
+    rw (c.before.same_key-same.ensures, c.before.before.method_key-2.ensures, c.before.before.before.method_key.ensures, at.prepare-prepared.ensures)
     (good_test makes Empty at.before.args.sampler)
 
 pub is_made_spec : {M : Type 1} → statement M

@@ -9,9 +9,9 @@ returns : tie.Need-returns
 returns c =
     let start = c.before.before.before.before.before in
     let t = start.args.totals in
-    let d = c.difference.result in
+    let d = c.difference-sum.result in
     exact_is _ d.high d.low t.squares.high t.squares.low (value_of t.residues) (value_of t.moduli)
-    (omega (arith, c.difference.type-inv)) (omega (arith, start.well_formed)) c.before.is_below.ensures c.difference.ensures
+    (omega (arith, c.difference-sum.type_inv)) (omega (arith, start.well_formed)) c.before.is_below-negative.ensures c.difference-sum.ensures
 
 pub exact_spec : {M : Type 1} → statement M
 exact_spec = tie.close (tie.spec (λ c κs. search rules) (λ c κs. search rules) returns)

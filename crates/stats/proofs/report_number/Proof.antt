@@ -5,31 +5,31 @@ use Rattle.stats.specs.Report.{report_number}
 use Rattle.stats.proofs.report_number.Statement.{statement}
 use Rattle.stats.proofs.report_number.Tie as tie
 
-returns : tie.Need-returns
+returns : tie.Need-returns-then-residues-gt-MAX_OUTPUT
 unfolding first_of report_number
-returns c = rw (lt-ltb _ _ c.if1.true)
+returns c = rw (lt-ltb _ _ c.if-residues-gt-MAX_OUTPUT.true)
 
-returns-2 : tie.Need-returns-2
+returns-2 : tie.Need-returns-then-modulus
 unfolding first_of report_number
-returns-2 c = rw (le-ltb _ _ c.before.if1.false, c.if2.true)
+returns-2 c = rw (le-ltb _ _ c.before.if-residues-gt-MAX_OUTPUT.false, c.if-modulus.true)
 
-returns-3 : tie.Need-returns-3
+returns-3 : tie.Need-returns-then-count_length-limit_count
 unfolding first_of report_number
-returns-3 c = rw (le-ltb _ _ c.before.before.if1.false, c.before.if2.false, ne_eqb _ _ c.if3.true)
+returns-3 c = rw (le-ltb _ _ c.before.before.if-residues-gt-MAX_OUTPUT.false, c.before.if-modulus.false, ne_eqb _ _ c.if-count_length-limit_count.true)
 
-returns-4 : tie.Need-returns-4
+returns-4 : tie.Need-returns-then-not-all_below
 unfolding first_of report_number
 returns-4 c =
     let third = c.before.before in
-    rw (le-ltb _ _ third.before.before.if1.false, third.before.if2.false, eq-eqb _ _ third.if3.false)
-    (rw (← c.before.all-below.ensures, c.if4.true) refl)
+    rw (le-ltb _ _ third.before.before.if-residues-gt-MAX_OUTPUT.false, third.before.if-modulus.false, eq-eqb _ _ third.if-count_length-limit_count.false)
+    (rw (← c.before.all_below.ensures, c.if-not-all_below.true) refl)
 
-returns-5 : tie.Need-returns-5
+returns-5 : tie.Need-returns
 unfolding first_of report_number
 returns-5 c =
     let third = c.before.before in
-    rw (le-ltb _ _ third.before.before.if1.false, third.before.if2.false, eq-eqb _ _ third.if3.false)
-    (rw (← c.before.all-below.ensures, c.if4.false) refl)
+    rw (le-ltb _ _ third.before.before.if-residues-gt-MAX_OUTPUT.false, third.before.if-modulus.false, eq-eqb _ _ third.if-count_length-limit_count.false)
+    (rw (← c.before.all_below.ensures, c.if-not-all_below.false) refl)
 
 pub report_number_spec : {M : Type 1} → statement M
 report_number_spec = tie.close (tie.spec returns returns-2 returns-3 (λ c κs. search rules) returns-4 returns-5)

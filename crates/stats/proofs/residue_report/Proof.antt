@@ -7,33 +7,33 @@ use Rattle.stats.proofs.residue_report.Statement.{statement}
 use Rattle.stats.proofs.residue_report.Tie as tie
 
 -- number 0 says what the counts and the sums ask for
-good : (c : tie.Else1) → let a = c.before.before.before.before.before.args in
+good : (c : tie.Else-number-ne0) → let a = c.before.before.before.before.before.args in
     Accepted a.residues.now a.modulus (length a.limits.now) (length a.counts.now)
 good c =
     let a = c.before.before.before.before.before.args in
-    accepted a.residues.now a.modulus (length a.limits.now) (length a.counts.now) (sym c.before.report-number.ensures ∙ c.if1.false)
+    accepted a.residues.now a.modulus (length a.limits.now) (length a.counts.now) (sym c.before.report_number-number.ensures ∙ c.if-number-ne0.false)
 
-returns : tie.Need-returns
+returns : tie.Need-returns-then-number-ne0
 unfolding report
 returns c =
     let call = c.before.before in
-    rw (← call.report-number.ensures, ne_eqb call.report-number.result 0 c.before.if1.true, c.refused.ensures)
+    rw (← call.report_number-number.ensures, ne_eqb call.report_number-number.result 0 c.before.if-number-ne0.true, c.refused.ensures)
 
-count-limits-requires : tie.Need-count-limits-requires
+count-limits-requires : tie.Need-count_limits-requires
 count-limits-requires c κs = let g = good c.before in (g.few, g.modulus_most, g.below, g.same)
 
-sum-residues-requires : tie.Need-sum-residues-requires
+sum-residues-requires : tie.Need-sum_residues-requires
 sum-residues-requires c κs = let third = c.before.before.before in let g = good third.before in (g.few, g.modulus_most, g.below)
 
-returns-2 : tie.Need-returns-2
+returns-2 : tie.Need-returns
 unfolding report
 returns-2 c =
     let counting = c.before.before.before.before in
     let test = counting.before.before in
     let a = test.before.before.before.before.before.args in
-    let totals = c.before.sum-residues.ensures in
-    rw (← test.before.report-number.ensures, test.if1.false, sum_is a.modulus a.residues.now, squares-is a.modulus a.residues.now)
-    (rw (c.exact.ensures, counting.count-limits.ensures, totals.residues, totals.moduli, totals.squares) refl)
+    let totals = c.before.sum_residues.ensures in
+    rw (← test.before.report_number-number.ensures, test.if-number-ne0.false, sum_is a.modulus a.residues.now, squares-is a.modulus a.residues.now)
+    (rw (c.exact.ensures, counting.count_limits.ensures, totals.residues, totals.moduli, totals.squares) refl)
 
 pub residue_report_spec : {M : Type 1} → statement M
 residue_report_spec =

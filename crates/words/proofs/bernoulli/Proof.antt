@@ -10,27 +10,27 @@ use Rattle.words.proofs.Places.{verdict, chance-told}
 use Rattle.words.proofs.bernoulli.Statement.{statement}
 use Rattle.words.proofs.bernoulli.Tie as tie
 
-returns : tie.Need-returns
+returns : tie.Need-returns-then-full
 unfolding told_chance
-returns c = rw c.if1.true refl
+returns c = rw c.if-full.true refl
 
 -- past the first test the threshold judges what was taken
-judged : (c : tie.After-next-u64) (t : Taken) → c.next-u64.result ≡ t
+judged : (c : tie.After-next_u64) (t : Taken) → c.next_u64.result ≡ t
     → let a = c.before.before.before.args in verdict a.threshold.below t ≡ told_chance a.words.now a.place a.threshold
 unfolding told_chance
 judged c t e =
     let a = c.before.before.before.args in
-    rw c.before.if1.false
-    (chance-told (length a.words.now) a.threshold.below (drop a.place a.words.now) t (omega arith) (sym e ∙ c.next-u64.ensures))
+    rw c.before.if-full.false
+    (chance-told (length a.words.now) a.threshold.below (drop a.place a.words.now) t (omega arith) (sym e ∙ c.next_u64.ensures))
 
-returns-2 : tie.Need-returns-2
-returns-2 c = let took = c.before.before.before.before in rw (lt-ltb _ _ c.if2.true) at (judged took _ c.before.before.value.given.1)
+returns-2 : tie.Need-returns-then-value-below
+returns-2 c = let took = c.before.before.before.before in rw (lt-ltb _ _ c.if-value-below.true) at (judged took _ c.before.before.value-1.given.1)
 
-returns-3 : tie.Need-returns-3
-returns-3 c = let took = c.before.before.before.before in rw (le-ltb _ _ c.if2.false) at (judged took _ c.before.before.value.given.1)
+returns-3 : tie.Need-returns-else-value-below
+returns-3 c = let took = c.before.before.before.before in rw (le-ltb _ _ c.if-value-below.false) at (judged took _ c.before.before.value-1.given.1)
 
-returns-4 : tie.Need-returns-4
-returns-4 c = judged c.before.before _ c.enum_told.given.1
+returns-4 : tie.Need-returns-in-Short
+returns-4 c = judged c.before.before _ c.enum_told-1.given.1
 
 pub bernoulli_spec : {M : Type 1} → statement M
 bernoulli_spec =

@@ -7,17 +7,17 @@ use Rattle.words.proofs.Places.{wide-there, wide_missing, taken_at, taken_none}
 use Rattle.words.proofs.next_u64.Statement.{statement}
 use Rattle.words.proofs.next_u64.Tie as tie
 
-returns : tie.Need-returns
+returns : tie.Need-returns-then-n-lt2
 returns c =
     let a = c.before.before.args in
     taken_none a.words.now 0 _ (wide_missing a.words.now a.place (omega arith))
 
-returns-2 : tie.Need-returns-2
+returns-2 : tie.Need-returns-then-n-place
 returns-2 c =
     let a = c.before.before.before.args in
     taken_none a.words.now 0 _ (wide_missing a.words.now a.place (omega arith))
 
-returns-3 : tie.Need-returns-3
+returns-3 : tie.Need-returns
 returns-3 c =
     let a = c.before.before.before.before.before.before.args in
     taken_at a.words.now (a.place + 2) _ _ (omega arith)

@@ -7,22 +7,22 @@ use Rattle.words.proofs.Places.{coin-there, coin_missing, told_yes, told_no, tol
 use Rattle.words.proofs.random_bool.Statement.{statement}
 use Rattle.words.proofs.random_bool.Tie as tie
 
-returns : tie.Need-returns
+returns : tie.Need-returns-then-words-place-ge2147483648
 returns c =
     let a = c.before.before.before.args in
     rw (add-one a.place)
-    (told_yes a.words.now _ _ (omega arith) (coin-there a.words.now a.place _ c.before.before.if1.true (le-leb _ _ c.if2.true)))
+    (told_yes a.words.now _ _ (omega arith) (coin-there a.words.now a.place _ c.before.before.if-place-words.true (le-leb _ _ c.if-words-place-ge2147483648.true)))
 
-returns-2 : tie.Need-returns-2
+returns-2 : tie.Need-returns-else-words-place-ge2147483648
 returns-2 c =
     let a = c.before.before.before.args in
     rw (add-one a.place)
-    (told_no a.words.now _ _ (omega arith) (coin-there a.words.now a.place _ c.before.before.if1.true (lt-leb _ _ c.if2.false)))
+    (told_no a.words.now _ _ (omega arith) (coin-there a.words.now a.place _ c.before.before.if-place-words.true (lt-leb _ _ c.if-words-place-ge2147483648.false)))
 
-returns-3 : tie.Need-returns-3
+returns-3 : tie.Need-returns-else-place-words
 returns-3 c =
     let a = c.before.args in
-    told_none a.words.now _ (coin_missing a.words.now a.place c.if1.false)
+    told_none a.words.now _ (coin_missing a.words.now a.place c.if-place-words.false)
 
 pub random_bool_spec : {M : Type 1} → statement M
 random_bool_spec =

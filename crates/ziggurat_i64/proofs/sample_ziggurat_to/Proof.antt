@@ -5,73 +5,73 @@ use Rattle.ziggurat.proofs.Turning.{Turning, signed-each, signed-held, draw-refu
 use Rattle.ziggurat_i64.proofs.sample_ziggurat_to.Statement.{statement}
 use Rattle.ziggurat_i64.proofs.sample_ziggurat_to.Tie as tie
 
-abbrev invariant-loop : tie.invariant-loop
-invariant-loop output₀ encoding parameters endpoints heights curve words place number zero from n i₀ at₀ used₀ output i at used =
+abbrev invariant-loop-i : tie.invariant-loop-i
+invariant-loop-i output₀ encoding parameters endpoints heights curve words place number zero from n i₀ at₀ used₀ output i at used =
     Turning (λ cs. cs) parameters endpoints heights curve words place output₀ (λ c. c) zero from i at used output
 
-abbrev decreases-loop : tie.decreases-loop
-decreases-loop output₀ encoding parameters endpoints heights curve words place number zero from n i₀ at₀ used₀ output i at used = length from - at
+abbrev decreases-loop-i : tie.decreases-loop-i
+decreases-loop-i output₀ encoding parameters endpoints heights curve words place number zero from n i₀ at₀ used₀ output i at used = length from - at
 
-loop-holds : tie.Need-loop-init invariant-loop decreases-loop
+loop-holds : tie.Need-loop-i-init invariant-loop-i decreases-loop-i
 loop-holds c =
     let judged = c.before.before.before in
     let numbered = judged.before in
-    turning_none _ _ _ _ _ _ _ _ numbered.before.check-layer-tables.ensures numbered.draw-number.ensures judged.if1.false signed-each
-    c.before.zero-threshold.ensures
+    turning_none _ _ _ _ _ _ _ _ numbered.before.check_layer_tables-fault.ensures numbered.draw_number-number.ensures judged.if-number-ne0.false signed-each
+    c.before.zero_threshold-zero.ensures
 
 -- the words that a turn uses lie between its place and the next
-uses : (c : tie.After-struct-known invariant-loop decreases-loop)
-    → let at = c.before.before.before.before.before.before.loop in
-    let got = c.before.before.tried.given.0 in
+uses : (c : tie.After-struct_known-1 invariant-loop-i decreases-loop-i)
+    → let at = c.before.before.before.before.before.before.loop-i in
+    let got = c.before.before.tried-1.given.0 in
     (at.used ≤ at.at) × (at.at + 3 ≤ got.0.place) × (got.0.place ≤ got.1.1.0)
 uses c =
     let trial = c.before.before in
     let attempted = trial.before.before in
     let turn = attempted.before in
-    turn_uses _ _ _ _ _ _ _ _ turn.before.loop.invariant turn.loop-test.true _ attempted.attempt.ensures trial.tried.given.1
+    turn_uses _ _ _ _ _ _ _ _ turn.before.loop-i.invariant turn.loop-i-test.true _ attempted.attempt.ensures trial.tried-1.given.1
 
 -- what the judging of a trial at the edge asks for
-passes-edge-requires : tie.Need-passes-edge-requires invariant-loop decreases-loop
+passes-edge-requires : tie.Need-passes_edge-passed-requires invariant-loop-i decreases-loop-i
 passes-edge-requires c κs =
     let edge = c.before.before in
     let trial = edge.before.before.before in
     let attempted = trial.before.before in
     let turn = attempted.before in
-    let inv = turn.before.loop.invariant in (
-      edge_on _ _ _ _ _ _ _ _ inv turn.loop-test.true _ attempted.attempt.ensures trial.tried.given.1,
+    let inv = turn.before.loop-i.invariant in (
+      edge_on _ _ _ _ _ _ _ _ inv turn.loop-i-test.true _ attempted.attempt.ensures trial.tried-1.given.1,
       (
         inv.threshold,
-        edge_there _ _ _ _ _ _ _ _ inv turn.loop-test.true _ attempted.attempt.ensures trial.tried.given.1 edge.if2.false,
+        edge_there _ _ _ _ _ _ _ _ inv turn.loop-i-test.true _ attempted.attempt.ensures trial.tried-1.given.1 edge.if-inside.false,
       ),
     )
 
 -- the turn stores its trial's coefficient, which passed inside the layer above
-loop-again : tie.Need-loop-preserved invariant-loop decreases-loop
+loop-again : tie.Need-loop-i-preserved-then-inside invariant-loop-i decreases-loop-i
 loop-again c =
     let inside = c.before.before in
     let trial = inside.before.before.before in
     let attempted = trial.before.before in
     let turn = attempted.before in
-    turn-next _ _ _ _ _ _ _ _ turn.before.loop.invariant turn.loop-test.true _ attempted.attempt.ensures trial.tried.given.1 _
-    (inl (inside.if2.true, refl)) (signed-held trial.tried.given.0.0 c.coefficient.type-inv (omega (arith, c.before.struct-known2.given)) c.coefficient.ensures)
+    turn-next _ _ _ _ _ _ _ _ turn.before.loop-i.invariant turn.loop-i-test.true _ attempted.attempt.ensures trial.tried-1.given.1 _
+    (inl (inside.if-inside.true, refl)) (signed-held trial.tried-1.given.0.0 c.coefficient.type_inv (omega (arith, c.before.struct_known-then-inside-1.given)) c.coefficient.ensures)
 
 -- or is judged at the edge
-loop-again-2 : tie.Need-loop-preserved-2 invariant-loop decreases-loop
+loop-again-2 : tie.Need-loop-i-preserved invariant-loop-i decreases-loop-i
 loop-again-2 c =
     let edge = c.before.before.before in
     let trial = edge.before.before.before in
     let attempted = trial.before.before in
     let turn = attempted.before in
-    turn-next _ _ _ _ _ _ _ _ turn.before.loop.invariant turn.loop-test.true _ attempted.attempt.ensures trial.tried.given.1 _
-    (inr (edge.if2.false, _, c.passes-edge.ensures, refl)) (signed-held trial.tried.given.0.0 c.before.coefficient2.type-inv (omega (arith, c.before.before.struct-known3.given)) c.before.coefficient2.ensures)
+    turn-next _ _ _ _ _ _ _ _ turn.before.loop-i.invariant turn.loop-i-test.true _ attempted.attempt.ensures trial.tried-1.given.1 _
+    (inr (edge.if-inside.false, _, c.passes_edge-passed.ensures, refl)) (signed-held trial.tried-1.given.0.0 c.before.coefficient-else-inside.type_inv (omega (arith, c.before.before.struct_known-else-inside-1.given)) c.before.coefficient-else-inside.ensures)
 
 pub sample_ziggurat_to_spec : {M : Type 1} → statement M
 sample_ziggurat_to_spec =
     tie.close
-    (tie.spec invariant-loop decreases-loop (λ c κs. search rules) (λ c κs. search rules) (λ c κs. search rules) (λ c κs. search rules)
+    (tie.spec invariant-loop-i decreases-loop-i (λ c κs. search rules) (λ c κs. search rules) (λ c κs. search rules) (λ c κs. search rules)
     (λ c. (search draw-refused, search reports_refused)) (λ c. search heights-there) (λ c κs. search rules) (λ c. search place-bytes)
     (λ c. search place-within) (λ c. search place-within) (λ c. search rules) loop-holds
-    (λ c κs. (turn_sizes _ _ _ _ _ _ _ _ c.before.loop.invariant, turn-within _ _ _ _ _ _ _ _ c.before.loop.invariant)) (λ c. search rules)
+    (λ c κs. (turn_sizes _ _ _ _ _ _ _ _ c.before.loop-i.invariant, turn-within _ _ _ _ _ _ _ _ c.before.loop-i.invariant)) (λ c. search rules)
     (λ c. search rules) (λ c κs. search rules) (λ c κs. search rules) (λ c. cc)
     (λ c. (search turn-short, reports_refused _ (λ z. omega arith) c.refused.ensures)) (λ c. omega (arith, uses c))
     (λ c. record { fits = omega (arith, uses c) }) (λ c. record { fits = omega (arith, uses c) }) (λ c. search rules) (λ c κs. search rules)

@@ -4,17 +4,17 @@ use borrow.Author.Rules.{rules}
 use Rattle.any_sampler.proofs.AnyDistr.prepare.Statement.{statement}
 use Rattle.any_sampler.proofs.AnyDistr.prepare.Tie as tie
 
-returns : tie.Need-returns
+returns : tie.Need-returns-in-Secret
 unfolding preparing_any
-returns c = rw c.before.before.self.given.1 c.make-secret.ensures
+returns c = rw c.before.before.self-1.given.1 c.make_secret.ensures
 
-returns-2 : tie.Need-returns-2
+returns-2 : tie.Need-returns-in-Error
 unfolding preparing_any
-returns-2 c = rw c.before.before.self2.given.1 c.make-error.ensures
+returns-2 c = rw c.before.before.self-in-Error-1.given.1 c.make_error.ensures
 
-returns-3 : tie.Need-returns-3
+returns-3 : tie.Need-returns-in-Unknown
 unfolding preparing_any
-returns-3 c = rw c.before.enum_told.given.1 c.judged.ensures
+returns-3 c = rw c.before.enum_told-1.given.1 c.judged.ensures
 
 pub prepare_spec : {M : Type 1} → statement M
 prepare_spec =

@@ -5,13 +5,13 @@ use Rattle.binary.proofs.Halves.{bit-most, half-fits, half-within, half_tells}
 use Rattle.binary.proofs.below.one_below.Statement.{statement}
 use Rattle.binary.proofs.below.one_below.Tie as tie
 
-add_half : tie.Need-overflow-add-half
+add_half : tie.Need-overflow_add-half
 add_half c = record { fits = half-fits c.args.word (search rules) c.args.odd }
 
-add-bound-2 : tie.Need-overflow-add-bound-2
+add-bound-2 : tie.Need-overflow_add-bound-2
 add-bound-2 c = omega (arith, bit-most c.args.odd)
 
-sub-result : tie.Need-overflow-sub-result
+sub-result : tie.Need-overflow_sub-result
 sub-result c = half-within c.args.word (search rules) c.args.below c.args.odd
 
 returns : tie.Need-returns

@@ -4,11 +4,11 @@ use Rattle.binary.proofs.Halves.{even-end, odd_end}
 use Rattle.binary_i64.proofs.below.fill.Statement.{statement}
 use Rattle.binary_i64.proofs.below.fill.Tie as tie
 
-returns : tie.Need-returns
-returns c = let filled = c.before in rw (even-end _ filled.before.before.if1.true) at filled.fill-by.ensures
+returns : tie.Need-returns-then-below-eq0
+returns c = let filled = c.before in rw (even-end _ filled.before.before.if-below-eq0.true) at filled.fill_by.ensures
 
-returns-2 : tie.Need-returns-2
-returns-2 c = let filled = c.before in rw (odd_end _ filled.before.before.if1.false) at filled.fill-by2.ensures
+returns-2 : tie.Need-returns-else-below-eq0
+returns-2 c = let filled = c.before in rw (odd_end _ filled.before.before.if-below-eq0.false) at filled.fill_by-else-below-eq0.ensures
 
 pub fill_spec : {M : Type 1} → statement M
 fill_spec =

@@ -25,49 +25,49 @@ skips-of : (c : tie.Start) → let a = c.args in
     (binary (threshold_value a.threshold) (length a.output.now)).skips (drop a.place a.words.now) ≡ nothing
 skips-of c = let a = c.args in binary-skips (threshold_value a.threshold) (length a.output.now) (drop a.place a.words.now)
 
-returns : tie.Need-returns
+returns : tie.Need-returns-then-answer-eq-OUT_OF_WORDS
 returns c =
     let told = c.before.before.before.before.before in
     let start = told.before.before.before in (
-      draw_cleared (λ cs. cs) (λ x. x) (λ cs. sym (map_id cs)) 0 (lit< tt) _ _ _ _ _ _ _ (rule-of start) _ told.answer-of.ensures _
-          c.before.before.before.if1.true c.before.clear.ensures,
-      answer_reports _ _ _ _ _ told.answer-of.ensures (skips-of start),
+      draw_cleared (λ cs. cs) (λ x. x) (λ cs. sym (map_id cs)) 0 (lit< tt) _ _ _ _ _ _ _ (rule-of start) _ told.answer_of-answer.ensures _
+          c.before.before.before.if-answer-eq-OUT_OF_WORDS.true c.before.clear.ensures,
+      answer_reports _ _ _ _ _ told.answer_of-answer.ensures (skips-of start),
     )
 
-returns-2 : tie.Need-returns-2
+returns-2 : tie.Need-returns-then-answer-ne0
 returns-2 c =
     let told = c.before.before.before.before in
     let start = told.before.before.before in (
-      draw-refused (λ cs. cs) (λ x. x) (λ cs. sym (map_id cs)) 0 (lit< tt) _ _ _ _ _ _ _ (rule-of start) _ told.answer-of.ensures _
-          c.before.before.if1.false c.if2.true refl,
-      answer_reports _ _ _ _ _ told.answer-of.ensures (skips-of start),
+      draw-refused (λ cs. cs) (λ x. x) (λ cs. sym (map_id cs)) 0 (lit< tt) _ _ _ _ _ _ _ (rule-of start) _ told.answer_of-answer.ensures _
+          c.before.before.if-answer-eq-OUT_OF_WORDS.false c.if-answer-ne0.true refl,
+      answer_reports _ _ _ _ _ told.answer_of-answer.ensures (skips-of start),
     )
 
-returns-3 : tie.Need-returns-3
+returns-3 : tie.Need-returns-then-threshold
 returns-3 c =
     let constant = c.before.before.before in
     let told = constant.before.before.before.before.before in
     let start = told.before.before.before in (
-      draw-constant (λ cs. cs) (λ x. x) (λ cs. sym (map_id cs)) 0 (lit< tt) _ _ _ _ _ _ _ (rule-of start) _ told.answer-of.ensures _
-          constant.before.if2.false (rw constant.if3.true) c.before.fill.ensures,
-      answer_reports _ _ _ _ _ told.answer-of.ensures (skips-of start),
+      draw-constant (λ cs. cs) (λ x. x) (λ cs. sym (map_id cs)) 0 (lit< tt) _ _ _ _ _ _ _ (rule-of start) _ told.answer_of-answer.ensures _
+          constant.before.if-answer-ne0.false (rw constant.if-threshold.true) c.before.fill.ensures,
+      answer_reports _ _ _ _ _ told.answer_of-answer.ensures (skips-of start),
     )
 
 fill-requires-2 : tie.Need-fill-requires-2
 fill-requires-2 c κs =
     let reading = c.before in
     let told = reading.before.before.before.before.before in
-    answer-enough _ _ _ _ (rw reading.if3.false at told.answer-of.ensures) reading.before.if2.false
+    answer-enough _ _ _ _ (rw reading.if-threshold.false at told.answer_of-answer.ensures) reading.before.if-answer-ne0.false
 
-returns-4 : tie.Need-returns-4
+returns-4 : tie.Need-returns
 returns-4 c =
     let reading = c.before.before.before in
     let told = reading.before.before.before.before.before in
     let start = told.before.before.before in (
-      draw_read (λ cs. cs) (λ x. x) (λ cs. sym (map_id cs)) 0 (lit< tt) _ _ _ _ _ _ _ (rule-of start) _ told.answer-of.ensures _
-          reading.before.if2.false (rw reading.if3.false) (λ i. (told.before.before.shared-slice-known.given i).fits)
-          (binary_value start.args.threshold.below) (λ w h. refl) c.before.fill2.ensures,
-      answer_reports _ _ _ _ _ told.answer-of.ensures (skips-of start),
+      draw_read (λ cs. cs) (λ x. x) (λ cs. sym (map_id cs)) 0 (lit< tt) _ _ _ _ _ _ _ (rule-of start) _ told.answer_of-answer.ensures _
+          reading.before.if-answer-ne0.false (rw reading.if-threshold.false) (λ i. (told.before.before.shared_slice_known-1.given i).fits)
+          (binary_value start.args.threshold.below) (λ w h. refl) c.before.fill-2.ensures,
+      answer_reports _ _ _ _ _ told.answer_of-answer.ensures (skips-of start),
     )
 
 pub fill_binary_spec : {M : Type 1} → statement M

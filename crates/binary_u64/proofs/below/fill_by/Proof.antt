@@ -9,28 +9,28 @@ use Rattle.binary.proofs.Values.{below-held}
 use Rattle.binary_u64.proofs.below.fill_by.Statement.{statement}
 use Rattle.binary_u64.proofs.below.fill_by.Tie as tie
 
-abbrev invariant-loop : tie.invariant-loop
-invariant-loop output₀ below odd words place n i₀ at₀ output i at = (at ≡ place + 2 * i) × Stored (one_below (end_of below odd)) words place output₀ i output
+abbrev invariant-loop-i : tie.invariant-loop-i
+invariant-loop-i output₀ below odd words place n i₀ at₀ output i at = (at ≡ place + 2 * i) × Stored (one_below (end_of below odd)) words place output₀ i output
 
-abbrev decreases-loop : tie.decreases-loop
-decreases-loop output₀ below odd words place n i₀ at₀ output i at = n - i
+abbrev decreases-loop-i : tie.decreases-loop-i
+decreases-loop-i output₀ below odd words place n i₀ at₀ output i at = n - i
 
-loop-holds : tie.Need-loop-init invariant-loop decreases-loop
+loop-holds : tie.Need-loop-i-init invariant-loop-i decreases-loop-i
 loop-holds c = (omega arith, stored_none _ _ _ _)
 
-loop-again : tie.Need-loop-preserved invariant-loop decreases-loop
+loop-again : tie.Need-loop-i-preserved invariant-loop-i decreases-loop-i
 loop-again c =
-    let turn = c.before.before.before.before.before.loop in
-    (omega arith, stored_more _ _ _ _ turn.invariant.1 (omega arith) turn.invariant.0 c.before.wide_word.ensures c.one_below.ensures)
+    let turn = c.before.before.before.before.before.loop-i in
+    (omega arith, stored_more _ _ _ _ turn.invariant.1 (omega arith) turn.invariant.0 c.before.wide_word-word.ensures c.one_below.ensures)
 
-returns : tie.Need-returns invariant-loop decreases-loop
+returns : tie.Need-returns invariant-loop-i decreases-loop-i
 returns c =
     let start = c.before.before.before.before in
-    below-held (held_one start.args.encoding) (end_of start.args.below start.args.odd) _ _ ∙ stored-all _ _ _ _ c.before.loop.invariant.1 (omega arith) start.requires
+    below-held (held_one start.args.encoding) (end_of start.args.below start.args.odd) _ _ ∙ stored-all _ _ _ _ c.before.loop-i.invariant.1 (omega arith) start.requires
 
 pub fill_by_spec : {M : Type 1} → statement M
 fill_by_spec =
     tie.close
-    (tie.spec invariant-loop decreases-loop loop-holds (λ c. omega arith) (λ c. omega arith) (λ c. omega arith) (λ c. omega arith) (λ c. omega arith) (λ c κs. tt)
+    (tie.spec invariant-loop-i decreases-loop-i loop-holds (λ c. omega arith) (λ c. omega arith) (λ c. omega arith) (λ c. omega arith) (λ c. omega arith) (λ c κs. tt)
     (λ c κs. tt) (λ c. omega arith) (λ c. omega arith) (λ c. omega arith) (λ c. omega arith) (λ c. omega arith) loop-again
-    (λ c. c.before.loop.invariant.1.same_length) returns)
+    (λ c. c.before.loop-i.invariant.1.same_length) returns)

@@ -13,21 +13,21 @@ use Rattle.block_binary_i64.proofs.blocks.fill_block.Statement.{statement}
 use Rattle.block_binary_i64.proofs.blocks.fill_block.Tie as tie
 
 -- a full block has the position
-inside : (c : tie.Then1) → let a = c.before.before.before.before.args in a.position < length a.block.now
-inside c = c.before.before.before.before.requires.2 c.if1.true
+inside : (c : tie.Then-full) → let a = c.before.before.before.before.args in a.position < length a.block.now
+inside c = c.before.before.before.before.requires.2 c.if-full.true
 
 -- where the one or the zero goes in another there is room
-room : (c : tie.Else1) → let a = c.before.before.before.before.args in
+room : (c : tie.Else-full) → let a = c.before.before.before.before.args in
     a.position * bool_byte (ltb a.position (length a.block.now)) < length a.block.now
 room c = let s = c.before.before.before.before in position_room (length s.args.block.now) s.args.position s.requires.0
 
-cast-block : tie.Need-overflow-cast-block
+cast-block : tie.Need-overflow_cast-block
 cast-block c = let a = c.before.before.before.before.args in byte_fits (ltb a.position (length a.block.now))
 
-returns : tie.Need-returns
+returns : tie.Need-returns-then-full
 returns c = ap (λ l. set l c.before.before.before.before.args.position (pos 1)) c.before.before.blank.ensures
 
-returns-2 : tie.Need-returns-2
+returns-2 : tie.Need-returns-else-full
 returns-2 c =
     let s = c.before.before.before.before in
     let n = length s.args.block.now in

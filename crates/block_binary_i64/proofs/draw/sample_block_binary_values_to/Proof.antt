@@ -12,54 +12,54 @@ use Rattle.block_binary.proofs.Refusals.{Accepted, refused, ready, drawn}
 use Rattle.block_binary_i64.proofs.draw.sample_block_binary_values_to.Statement.{statement}
 use Rattle.block_binary_i64.proofs.draw.sample_block_binary_values_to.Tie as tie
 
-returns : tie.Need-returns
+returns : tie.Need-returns-then-number-ne0
 returns c =
     let told = c.before.before in
     let a = told.before.before.before.args in (
       rw c.refused.ensures
-          (refused (λ cs. cs) a.words.now _ _ a.occupancy _ told.before.block-number.ensures told.draw-number.ensures
-          c.before.if1.true),
-      reports_refused _ c.before.if1.true c.refused.ensures,
+          (refused (λ cs. cs) a.words.now _ _ a.occupancy _ told.before.block_number-own.ensures told.draw_number-number.ensures
+          c.before.if-number-ne0.true),
+      reports_refused _ c.before.if-number-ne0.true c.refused.ensures,
     )
 
 -- what is known where nothing refuses
-good : (c : tie.Else1) → let a = c.before.before.before.before.args in
+good : (c : tie.Else-number-ne0) → let a = c.before.before.before.before.args in
     Accepted (length a.words.now) a.place (length a.output.now) a.block_size
 good c =
     let told = c.before in
     let a = told.before.before.before.args in
-    ready (λ cs. cs) a.words.now a.place a.block_size a.occupancy a.output.now told.before.block-number.ensures
-    told.draw-number.ensures c.if1.false
+    ready (λ cs. cs) a.words.now a.place a.block_size a.occupancy a.output.now told.before.block_number-own.ensures
+    told.draw_number-number.ensures c.if-number-ne0.false
 
-draw-blocks-requires : tie.Need-draw-blocks-requires
+draw-blocks-requires : tie.Need-draw_blocks-requires
 draw-blocks-requires c κs =
     let g = good c.before.before.before in
     ((g.some, g.whole, g.within, g.small), (omega (arith, g.some), λ f. le_refl _))
 
-draw-blocks-requires-2 : tie.Need-draw-blocks-requires-2
+draw-blocks-requires-2 : tie.Need-draw_blocks-requires-in-AtMostOne
 draw-blocks-requires-2 c κs =
     let g = good c.before.before.before in
     ((g.some, g.whole, g.within, g.small), (omega arith, λ f. let no : ◌≡◌ {A = ℕ} 0 1 = ap bool_byte f in absurd (omega arith)))
 
-returns-2 : tie.Need-returns-2
+returns-2 : tie.Need-returns-in-ExactlyOne
 returns-2 c =
     let drew = c.before in
     let one = drew.before.before in
     let told = one.before.before.before in
     let a = told.before.before.before.args in
-    let same : a.block_size ≡ categories a.block_size a.occupancy = rw one.enum_told.given.1 in
-    drawn (λ cs. cs) a.words.now _ a.block_size a.occupancy a.output.now told.before.block-number.ensures
-    told.draw-number.ensures one.before.before.if1.false same drew.draw-blocks.result drew.draw-blocks.ensures
+    let same : a.block_size ≡ categories a.block_size a.occupancy = rw one.enum_told-1.given.1 in
+    drawn (λ cs. cs) a.words.now _ a.block_size a.occupancy a.output.now told.before.block_number-own.ensures
+    told.draw_number-number.ensures one.before.before.if-number-ne0.false same drew.draw_blocks.result drew.draw_blocks.ensures
 
-returns-3 : tie.Need-returns-3
+returns-3 : tie.Need-returns-in-AtMostOne
 returns-3 c =
     let drew = c.before in
     let one = drew.before.before in
     let told = one.before.before.before in
     let a = told.before.before.before.args in
-    let same : a.block_size + 1 ≡ categories a.block_size a.occupancy = rw one.enum-told2.given.1 (omega arith) in
-    drawn (λ cs. cs) a.words.now _ a.block_size a.occupancy a.output.now told.before.block-number.ensures
-    told.draw-number.ensures one.before.before.if1.false same drew.draw-blocks2.result drew.draw-blocks2.ensures
+    let same : a.block_size + 1 ≡ categories a.block_size a.occupancy = rw one.enum_told-in-AtMostOne-1.given.1 (omega arith) in
+    drawn (λ cs. cs) a.words.now _ a.block_size a.occupancy a.output.now told.before.block_number-own.ensures
+    told.draw_number-number.ensures one.before.before.if-number-ne0.false same drew.draw_blocks-in-AtMostOne.result drew.draw_blocks-in-AtMostOne.ensures
 
 pub sample_block_binary_values_to_spec : {M : Type 1} → statement M
 sample_block_binary_values_to_spec =

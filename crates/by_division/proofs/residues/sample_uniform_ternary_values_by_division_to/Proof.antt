@@ -12,29 +12,29 @@ use Rattle.by_division.proofs.Answering.{residues-answered}
 use Rattle.by_division.proofs.residues.sample_uniform_ternary_values_by_division_to.Statement.{statement}
 use Rattle.by_division.proofs.residues.sample_uniform_ternary_values_by_division_to.Tie as tie
 
-returns : tie.Need-returns
+returns : tie.Need-returns-then-asked-ne0
 returns c =
-    let number = c.before.draw-number.ensures in
+    let number = c.before.draw_number-number.ensures in
     let asked = c.before.before in
     let a = asked.before.before.before.before.args in
     residues-answered a.words.now a.place a.modulus a.output.now (omega arith) (
-      rw c.refused.ensures (encoded_asked UniformTernary no_tables _ _ _ _ asked.before.residue-number.ensures asked.if1.true number),
-      reports_refused _ (asked_refuses _ _ _ asked.if1.true number) c.refused.ensures,
+      rw c.refused.ensures (encoded_asked UniformTernary no_tables _ _ _ _ asked.before.residue_number-asked.ensures asked.if-asked-ne0.true number),
+      reports_refused _ (asked_refuses _ _ _ asked.if-asked-ne0.true number) c.refused.ensures,
     )
 
-sub-minus-one : tie.Need-overflow-sub-minus-one
+sub-minus-one : tie.Need-overflow_sub-minus_one
 sub-minus-one c =
     let a = c.before.before.before.before.args in
-    residues-above UniformTernary (length a.output.now) a.modulus (sym c.before.residue-number.ensures ∙ c.if1.false)
+    residues-above UniformTernary (length a.output.now) a.modulus (sym c.before.residue_number-asked.ensures ∙ c.if-asked-ne0.false)
 
-returns-2 : tie.Need-returns-2
+returns-2 : tie.Need-returns
 unfolding method_draw
 returns-2 c =
-    let drawn = c.before.before.sample-uniform-ternary-values-by-division-to.ensures in
+    let drawn = c.before.before.sample_uniform_ternary_values_by_division_to.ensures in
     let asked = c.before.before.before.before in
     let a = asked.before.before.before.before.args in
     residues-answered a.words.now a.place a.modulus a.output.now (omega arith)
-    (encoded_drawn UniformTernary no_tables _ _ _ _ asked.before.residue-number.ensures asked.if1.false drawn.0, drawn.1)
+    (encoded_drawn UniformTernary no_tables _ _ _ _ asked.before.residue_number-asked.ensures asked.if-asked-ne0.false drawn.0, drawn.1)
 
 pub sample_uniform_ternary_values_by_division_to_spec : {M : Type 1} → statement M
 sample_uniform_ternary_values_by_division_to_spec =

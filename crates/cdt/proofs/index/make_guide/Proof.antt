@@ -6,22 +6,22 @@ use Rattle.cdt.proofs.Climbing.{Filling, filling_none, filling_more}
 use Rattle.cdt.proofs.index.make_guide.Statement.{statement}
 use Rattle.cdt.proofs.index.make_guide.Tie as tie
 
-abbrev invariant-loop : tie.invariant-loop
-invariant-loop ends guide₀ at₀ k₀ guide at k = Filling ends guide at k
+abbrev invariant-loop-k : tie.invariant-loop-k
+invariant-loop-k ends guide₀ at₀ k₀ guide at k = Filling ends guide at k
 
-abbrev decreases-loop : tie.decreases-loop
-decreases-loop ends guide₀ at₀ k₀ guide at k = 256 - k
+abbrev decreases-loop-k : tie.decreases-loop-k
+decreases-loop-k ends guide₀ at₀ k₀ guide at k = 256 - k
 
-loop-again : tie.Need-loop-preserved invariant-loop decreases-loop
+loop-again : tie.Need-loop-k-preserved invariant-loop-k decreases-loop-k
 loop-again c =
-    let turn = c.before.before.loop in
-    filling_more _ turn.guide turn.at turn.k turn.invariant c.before.loop-test.true c.index-from.ensures
+    let turn = c.before.before.loop-k in
+    filling_more _ turn.guide turn.at turn.k turn.invariant c.before.loop-k-test.true c.index_from-at.ensures
 
-returns : tie.Need-returns invariant-loop decreases-loop
-returns c = λ k h. c.before.loop.invariant.entries k (omega arith)
+returns : tie.Need-returns invariant-loop-k decreases-loop-k
+returns c = λ k h. c.before.loop-k.invariant.entries k (omega arith)
 
 pub make_guide_spec : {M : Type 1} → statement M
 make_guide_spec =
     tie.close
-    (tie.spec invariant-loop decreases-loop (λ c κs. search rules) (λ c. filling_none _ _ c.guide-room.ensures) (λ c. omega arith) (λ c κs. tt)
+    (tie.spec invariant-loop-k decreases-loop-k (λ c κs. search rules) (λ c. filling_none _ _ c.guide_room-guide.ensures) (λ c. omega arith) (λ c κs. tt)
     (λ c. omega arith) (λ c. omega arith) (λ c. omega arith) (λ c. omega arith) loop-again returns)

@@ -8,22 +8,22 @@ use Rattle.cdt.proofs.Climbing.{last_fits, last_within, sampled-signed}
 use Rattle.cdt_i64.proofs.store.fill.Statement.{statement}
 use Rattle.cdt_i64.proofs.store.fill.Tie as tie
 
-abbrev invariant-loop : tie.invariant-loop
-invariant-loop output₀ encoding top bounds words place n last ends guide i₀ output i =
+abbrev invariant-loop-i : tie.invariant-loop-i
+invariant-loop-i output₀ encoding top bounds words place n last ends guide i₀ output i =
     Stored (cumulative_value top bounds) words place output₀ i output
 
-abbrev decreases-loop : tie.decreases-loop
-decreases-loop output₀ encoding top bounds words place n last ends guide i₀ output i = n - i
+abbrev decreases-loop-i : tie.decreases-loop-i
+decreases-loop-i output₀ encoding top bounds words place n last ends guide i₀ output i = n - i
 
-loop-again : tie.Need-loop-preserved invariant-loop decreases-loop
+loop-again : tie.Need-loop-i-preserved invariant-loop-i decreases-loop-i
 loop-again c =
-    let turn = c.before.before.before.before.before.before.before.loop in
-    stored_more _ _ _ _ turn.invariant (omega arith) refl c.before.before.before.wide_word.ensures (search sampled-signed)
+    let turn = c.before.before.before.before.before.before.before.loop-i in
+    stored_more _ _ _ _ turn.invariant (omega arith) refl c.before.before.before.wide_word-word.ensures (search sampled-signed)
 
 pub fill_spec : {M : Type 1} → statement M
 fill_spec =
     tie.close
-    (tie.spec invariant-loop decreases-loop (λ c. search last_fits) (λ c. omega arith) (λ c. omega arith) (λ c. search last_within) (λ c κs. tt)
+    (tie.spec invariant-loop-i decreases-loop-i (λ c. search last_fits) (λ c. omega arith) (λ c. omega arith) (λ c. search last_within) (λ c κs. tt)
     (λ c. search stored_none) (λ c. omega arith) (λ c. omega arith) (λ c. omega arith) (λ c. omega arith) (λ c. omega arith) (λ c. omega arith)
     (λ c. omega arith) (λ c κs. tt) (λ c κs. tt) (λ c κs. tt) (λ c. omega arith) (λ c. omega arith) (λ c. omega arith) (λ c. omega arith) loop-again
     (λ c. cc) (λ c. search stored-all))

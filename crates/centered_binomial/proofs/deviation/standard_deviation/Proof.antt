@@ -6,17 +6,17 @@ use Rattle.centered_binomial.proofs.Deviations.{nearest, table-value, no_deviati
 use Rattle.centered_binomial.proofs.deviation.standard_deviation.Statement.{statement}
 use Rattle.centered_binomial.proofs.deviation.standard_deviation.Tie as tie
 
-returns : tie.Need-returns
+returns : tie.Need-returns-then-eta-le-MAX_ETA
 unfolding of_bits round root
 returns c =
     let eta = c.before.before.args.eta in
-    let value = table-value eta c.before.if1.true in
+    let value = table-value eta c.before.if-eta-le-MAX_ETA.true in
     (value, λ e. rw value (nearest eta e))
 
-returns-2 : tie.Need-returns-2
+returns-2 : tie.Need-returns-else-eta-le-MAX_ETA
 unfolding of_bits round
 returns-2 c =
-    let value = no_deviation c.before.args.eta c.if1.false in
+    let value = no_deviation c.before.args.eta c.if-eta-le-MAX_ETA.false in
     (value, λ e. rw value (nearest c.before.args.eta e))
 
 pub standard_deviation_spec : {M : Type 1} → statement M

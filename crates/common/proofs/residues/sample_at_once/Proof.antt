@@ -15,7 +15,7 @@ returns c =
     let drawn = c.before.before in
     let made = drawn.before.before.before.before.before.before in
     let a = made.before.before.before.args in
-    once_encoded (secret a.distr) no_tables a.words.now a.place (made.prepare.ensures ∙ secret-preparing a.distr) a.modulus a.output.now (omega arith) drawn.sample-encoded-to.ensures
+    once_encoded (secret a.distr) no_tables a.words.now a.place (made.prepare-prepared.ensures ∙ secret-preparing a.distr) a.modulus a.output.now (omega arith) drawn.sample_encoded_to.ensures
 
 pub sample_at_once_spec : {M : Type 1} → statement M
 sample_at_once_spec =

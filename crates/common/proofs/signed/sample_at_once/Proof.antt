@@ -14,7 +14,7 @@ returns c =
     let drawn = c.before in
     let made = drawn.before.before.before.before.before.before in
     let a = made.before.before.args in
-    once_signed (secret a.distr) no_tables a.words.now a.place (made.prepare.ensures ∙ secret-preparing a.distr) a.output.now drawn.sample-signed-to.ensures
+    once_signed (secret a.distr) no_tables a.words.now a.place (made.prepare-by.ensures ∙ secret-preparing a.distr) a.output.now drawn.sample_signed_to.ensures
 
 pub sample_at_once_spec : {M : Type 1} → statement M
 sample_at_once_spec =

@@ -3,8 +3,8 @@ use borrow.Author.Rules.{rules}
 use Rattle.error_sampler.proofs.ErrorSampler.standard_deviation.Statement.{statement}
 use Rattle.error_sampler.proofs.ErrorSampler.standard_deviation.Tie as tie
 
-returns-2 : tie.Need-returns-2
-returns-2 c = rw c.before.before.distribution2.given.1 c.standard-deviation.ensures.0
+returns-2 : tie.Need-returns-in-CenteredBinomial
+returns-2 c = rw c.before.before.distribution-in-CenteredBinomial-1.given.1 c.standard_deviation.ensures.0
 
 pub standard_deviation_spec : {M : Type 1} → statement M
 standard_deviation_spec =

@@ -11,8 +11,8 @@ returns : tie.Need-returns
 returns c =
     let at = c.before.before in
     let self = at.before.args.self in
-    c.validated-modulus.ensures
-    ∙ rw c.before.maximum-magnitude.ensures (modulus_validated makes self at.is_made.ensures _ (sampler_fits self _ at.before.well_formed.0))
+    c.validated_modulus.ensures
+    ∙ rw c.before.maximum_magnitude.ensures (modulus_validated makes self at.is_made-made.ensures _ (sampler_fits self _ at.before.well_formed.0))
 
 pub validate_modulus_spec : {M : Type 1} → statement M
 validate_modulus_spec =

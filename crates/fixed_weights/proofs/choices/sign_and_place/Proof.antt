@@ -7,27 +7,27 @@ use Rattle.fixed_weights.proofs.Signs.{held, refilled, refilled_short}
 use Rattle.fixed_weights.proofs.choices.sign_and_place.Statement.{statement}
 use Rattle.fixed_weights.proofs.choices.sign_and_place.Tie as tie
 
-lowest-sign-and-place-requires-2 : tie.Need-lowest-sign-and-place-requires-2
-lowest-sign-and-place-requires-2 c κs = pos_of_ne-zero c.if1.false
+lowest-sign-and-place-requires-2 : tie.Need-lowest_sign_and_place-requires-else-left-eq0
+lowest-sign-and-place-requires-2 c κs = pos_of_ne-zero c.if-left-eq0.false
 
-returns : tie.Need-returns
+returns : tie.Need-returns-in-Got
 returns c =
     let told = c.before.before in
     let read = told.before.before in
     let a = read.before.before.before.args in
-    refilled a.words.now a.place a.word a.k read.before.if1.true
-    (sym told.value.given.1 ∙ read.next-u32.ensures) c.lowest-sign-and-place.ensures
+    refilled a.words.now a.place a.word a.k read.before.if-left-eq0.true
+    (sym told.value-1.given.1 ∙ read.next_u32.ensures) c.lowest_sign_and_place.ensures
 
-returns-2 : tie.Need-returns-2
+returns-2 : tie.Need-returns-in-Short
 returns-2 c =
     let read = c.before.before in
     let a = read.before.before.before.args in
-    refilled_short a.words.now a.place a.word a.k read.before.if1.true (sym c.enum_told.given.1 ∙ read.next-u32.ensures)
+    refilled_short a.words.now a.place a.word a.k read.before.if-left-eq0.true (sym c.enum_told-1.given.1 ∙ read.next_u32.ensures)
 
-returns-3 : tie.Need-returns-3
+returns-3 : tie.Need-returns-else-left-eq0
 returns-3 c =
     let a = c.before.before.before.args in
-    held a.words.now a.place a.word a.k a.left c.before.if1.false c.lowest-sign-and-place2.ensures
+    held a.words.now a.place a.word a.k a.left c.before.if-left-eq0.false c.lowest_sign_and_place-else-left-eq0.ensures
 
 pub sign_and_place_spec : {M : Type 1} → statement M
 sign_and_place_spec =

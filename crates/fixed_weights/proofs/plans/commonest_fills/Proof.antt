@@ -10,30 +10,30 @@ use borrow.Author.Tests.{le-leb, lt-leb}
 use Rattle.fixed_weights.proofs.plans.commonest_fills.Statement.{statement}
 use Rattle.fixed_weights.proofs.plans.commonest_fills.Tie as tie
 
-sub-zeros : tie.Need-overflow-sub-zeros
+sub-zeros : tie.Need-overflow_sub-zeros
 sub-zeros c = search rules
 
-sub-zeros-2 : tie.Need-overflow-sub-zeros-2
+sub-zeros-2 : tie.Need-overflow_sub-zeros-2
 sub-zeros-2 c = search rules
 
-returns : tie.Need-returns
+returns : tie.Need-returns-then-minus-zeros
 returns c =
     let a = c.before.args in
     let zeros = a.n - a.minus - a.ones in
-    let common : (leb a.minus zeros && leb a.ones zeros) ≡ true = c.if1.true in
+    let common : (leb a.minus zeros && leb a.ones zeros) ≡ true = c.if-minus-zeros.true in
     rw (sub-add-eq a.n a.minus a.ones, common)
 
 -- 0 is not the commonest
-rare : (c : tie.Else1) → let a = c.before.args in let zeros = a.n - (a.minus + a.ones) in (leb a.minus zeros && leb a.ones zeros) ≡ false
-rare c = let a = c.before.args in rw (sub-add-eq a.n a.minus a.ones) c.if1.false
+rare : (c : tie.Else-minus-zeros) → let a = c.before.args in let zeros = a.n - (a.minus + a.ones) in (leb a.minus zeros && leb a.ones zeros) ≡ false
+rare c = let a = c.before.args in rw (sub-add-eq a.n a.minus a.ones) c.if-minus-zeros.false
 
-returns-2 : tie.Need-returns-2
+returns-2 : tie.Need-returns-then-ones-minus
 returns-2 c =
     let a = c.before.before.args in
     let more : a.ones ≤ a.minus = omega arith in
     rw (rare c.before, le-leb _ _ more, sub-add-eq a.n a.minus a.ones)
 
-returns-3 : tie.Need-returns-3
+returns-3 : tie.Need-returns
 returns-3 c =
     let a = c.before.before.args in
     let less : a.minus < a.ones = omega arith in

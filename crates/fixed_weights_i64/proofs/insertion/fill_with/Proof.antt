@@ -10,7 +10,7 @@ use Rattle.fixed_weights_i64.proofs.insertion.fill_with.Tie as tie
 returns : tie.Need-returns
 returns c =
     let copied = c.before.before.before in
-    c.before.fill.ensures ∙ ap (replicate (length copied.before.args.output.now)) (to_z-of_z w64 _ (record { sfits = copied.value.given }))
+    c.before.fill.ensures ∙ ap (replicate (length copied.before.args.output.now)) (to_z-of_z w64 _ (record { sfits = copied.value-1.given }))
 
 pub fill_with_spec : {M : Type 1} → statement M
 fill_with_spec =

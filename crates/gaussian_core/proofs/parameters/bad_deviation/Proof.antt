@@ -6,7 +6,7 @@ use Rattle.gaussian_core.proofs.parameters.bad_deviation.Tie as tie
 
 returns : tie.Need-returns
 unfolding of_bits round
-returns c = rw (c.before.before.is_finite.ensures, c.before.is-finite2.ensures, c.is-finite3.ensures)
+returns c = rw (c.before.before.is_finite.ensures, c.before.is_finite-2.ensures, c.is_finite-3.ensures)
 
 pub bad_deviation_spec : {M : Type 1} → statement M
 bad_deviation_spec =

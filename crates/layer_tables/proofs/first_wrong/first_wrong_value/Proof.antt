@@ -8,31 +8,31 @@ use Rattle.layer_tables.proofs.Searching.{Searched, searched_none, searched_more
 use Rattle.layer_tables.proofs.first_wrong.first_wrong_value.Statement.{statement}
 use Rattle.layer_tables.proofs.first_wrong.first_wrong_value.Tie as tie
 
-abbrev invariant-loop : tie.invariant-loop
-invariant-loop curve n i₀ i = Searched (right curve_asked (literal 0 1) curve) n i
+abbrev invariant-loop-i : tie.invariant-loop-i
+invariant-loop-i curve n i₀ i = Searched (right curve_asked (literal 0 1) curve) n i
 
-abbrev decreases-loop : tie.decreases-loop
-decreases-loop curve n i₀ i = n - i
+abbrev decreases-loop-i : tie.decreases-loop-i
+decreases-loop-i curve n i₀ i = n - i
 
-returns : tie.Need-returns invariant-loop decreases-loop
+returns : tie.Need-returns-then-not-x invariant-loop-i decreases-loop-i
 unfolding round of_bits
 returns c =
-    let l = c.before.before.before.loop in
+    let l = c.before.before.before.loop-i in
     let test = value_entry nan c.before.before.before.before.args.curve.now l.i (omega arith) in
-    searched_found _ _ l.i _ c.if1.true test (omega arith) l.invariant
+    searched_found _ _ l.i _ c.if-not-x.true test (omega arith) l.invariant
 
-loop-again : tie.Need-loop-preserved invariant-loop decreases-loop
+loop-again : tie.Need-loop-i-preserved invariant-loop-i decreases-loop-i
 unfolding round of_bits
 loop-again c =
-    let l = c.before.before.before.loop in
+    let l = c.before.before.before.loop-i in
     let test = value_entry nan c.before.before.before.before.args.curve.now l.i (omega arith) in
-    searched_more _ _ l.i _ c.if1.false test (omega arith) l.invariant
+    searched_more _ _ l.i _ c.if-not-x.false test (omega arith) l.invariant
 
-returns-2 : tie.Need-returns-2 invariant-loop decreases-loop
-returns-2 c = let l = c.before.loop in searched_all _ _ l.i c.loop-test.false l.invariant
+returns-2 : tie.Need-returns invariant-loop-i decreases-loop-i
+returns-2 c = let l = c.before.loop-i in searched_all _ _ l.i c.loop-i-test.false l.invariant
 
 pub first_wrong_value_spec : {M : Type 1} → statement M
 first_wrong_value_spec =
     tie.close
-    (tie.spec invariant-loop decreases-loop (λ c. searched_none _ _) (λ c. omega arith) (λ c. omega arith) returns (λ c. omega arith) (λ c. omega arith) loop-again
+    (tie.spec invariant-loop-i decreases-loop-i (λ c. searched_none _ _) (λ c. omega arith) (λ c. omega arith) returns (λ c. omega arith) (λ c. omega arith) loop-again
     returns-2)

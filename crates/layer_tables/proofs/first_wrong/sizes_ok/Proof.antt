@@ -10,15 +10,15 @@ use Rattle.layer_tables.proofs.Searching.{one_more}
 use Rattle.layer_tables.proofs.first_wrong.sizes_ok.Statement.{statement}
 use Rattle.layer_tables.proofs.first_wrong.sizes_ok.Tie as tie
 
-returns : tie.Need-returns
-returns c = rw c.if1.true
+returns : tie.Need-returns-then-n-eq0
+returns c = rw c.if-n-eq0.true
 
-returns-2 : tie.Need-returns-2
+returns-2 : tie.Need-returns-then-values-eq0
 returns-2 c =
     let a = c.before.before.args in
     rw (ne_eqb (length a.curve.now) (a.maximum-magnitude + 1) (λ e. omega arith), and-false)
 
-returns-3 : tie.Need-returns-3
+returns-3 : tie.Need-returns
 returns-3 c =
     let a = c.before.before.args in
     let n = length a.endpoints.now in

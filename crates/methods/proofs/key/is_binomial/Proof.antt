@@ -4,4 +4,4 @@ use Rattle.methods.proofs.key.is_binomial.Statement.{statement}
 use Rattle.methods.proofs.key.is_binomial.Tie as tie
 
 pub is_binomial_spec : {M : Type 1} → statement M
-is_binomial_spec = tie.close (tie.spec (λ c κs. search rules) (λ c. rw c.before.method-key.ensures))
+is_binomial_spec = tie.close (tie.spec (λ c κs. search rules) (λ c. rw c.before.method_key.ensures))

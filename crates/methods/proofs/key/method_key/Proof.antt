@@ -6,49 +6,49 @@ use borrow.Author.Rules.{rules}
 use Rattle.methods.proofs.key.method_key.Statement.{statement}
 use Rattle.methods.proofs.key.method_key.Tie as tie
 
-returns : tie.Need-returns
-returns c = c.plain.ensures ∙ ap method_key (sym c.before.enum_told.given.1)
+returns : tie.Need-returns-in-UniformBinary
+returns c = c.plain.ensures ∙ ap method_key (sym c.before.enum_told-1.given.1)
 
-returns-2 : tie.Need-returns-2
+returns-2 : tie.Need-returns-in-Binary
 unfolding of_bits round
-returns-2 c = ap method_key (sym c.before.method.given.1)
+returns-2 c = ap method_key (sym c.before.method-1.given.1)
 
-returns-3 : tie.Need-returns-3
-returns-3 c = c.plain2.ensures ∙ ap method_key (sym c.before.enum-told2.given.1)
+returns-3 : tie.Need-returns-in-SparseTernary
+returns-3 c = c.plain-in-SparseTernary.ensures ∙ ap method_key (sym c.before.enum_told-in-SparseTernary-1.given.1)
 
-returns-4 : tie.Need-returns-4
-returns-4 c = c.plain3.ensures ∙ ap method_key (sym c.before.enum-told3.given.1)
+returns-4 : tie.Need-returns-in-UniformTernary
+returns-4 c = c.plain-in-UniformTernary.ensures ∙ ap method_key (sym c.before.enum_told-in-UniformTernary-1.given.1)
 
-returns-5 : tie.Need-returns-5
-returns-5 c = c.ternary-key.ensures ∙ ap method_key (sym c.before.before.method2.given.1)
+returns-5 : tie.Need-returns-in-Ternary
+returns-5 c = c.ternary_key.ensures ∙ ap method_key (sym c.before.before.method-in-Ternary-1.given.1)
 
-returns-6 : tie.Need-returns-6
-returns-6 c = c.plain4.ensures ∙ ap method_key (sym c.before.before.method3.given.1)
+returns-6 : tie.Need-returns-in-FixedHammingWeightBinary
+returns-6 c = c.plain-in-FixedHammingWeightBinary.ensures ∙ ap method_key (sym c.before.before.method-in-FixedHammingWeightBinary-1.given.1)
 
-returns-7 : tie.Need-returns-7
+returns-7 : tie.Need-returns-in-AtMostOne
 returns-7 c =
-    let method4 = c.before.before.before.before.method4 in
-    rw (method4.given.1, c.before.enum-told4.given.1, c.plain5.ensures)
+    let method4 = c.before.before.before.before.method-in-BlockBinary-1 in
+    rw (method4.given.1, c.before.enum_told-in-AtMostOne-1.given.1, c.plain-in-AtMostOne.ensures)
 
-returns-8 : tie.Need-returns-8
+returns-8 : tie.Need-returns-in-ExactlyOne
 returns-8 c =
-    let method4 = c.before.before.before.before.method4 in
-    rw (method4.given.1, c.before.enum-told5.given.1, c.plain6.ensures)
+    let method4 = c.before.before.before.before.method-in-BlockBinary-1 in
+    rw (method4.given.1, c.before.enum_told-in-ExactlyOne-1.given.1, c.plain-in-ExactlyOne.ensures)
 
-returns-9 : tie.Need-returns-9
-returns-9 c = c.plain7.ensures ∙ ap method_key (sym c.before.before.method5.given.1)
+returns-9 : tie.Need-returns-in-FixedHammingWeightTernary
+returns-9 c = c.plain-in-FixedHammingWeightTernary.ensures ∙ ap method_key (sym c.before.before.method-in-FixedHammingWeightTernary-1.given.1)
 
-returns-10 : tie.Need-returns-10
-returns-10 c = c.plain8.ensures ∙ ap method_key (sym c.before.before.method6.given.1)
+returns-10 : tie.Need-returns-in-FixedCompositionTernary
+returns-10 c = c.plain-in-FixedCompositionTernary.ensures ∙ ap method_key (sym c.before.before.method-in-FixedCompositionTernary-1.given.1)
 
-returns-11 : tie.Need-returns-11
-returns-11 c = ap method_key (sym c.before.method7.given.1)
+returns-11 : tie.Need-returns-in-Gaussian
+returns-11 c = ap method_key (sym c.before.method-in-Gaussian-1.given.1)
 
-returns-12 : tie.Need-returns-12
-returns-12 c = c.plain9.ensures ∙ ap method_key (sym c.before.before.before.method8.given.1)
+returns-12 : tie.Need-returns-in-CenteredBinomial
+returns-12 c = c.plain-in-CenteredBinomial.ensures ∙ ap method_key (sym c.before.before.before.method-in-CenteredBinomial-1.given.1)
 
-returns-13 : tie.Need-returns-13
-returns-13 c = c.plain10.ensures ∙ ap method_key (sym c.before.enum-told6.given.1)
+returns-13 : tie.Need-returns-in-Empty
+returns-13 c = c.plain-in-Empty.ensures ∙ ap method_key (sym c.before.enum_told-in-Empty-1.given.1)
 
 pub method_key_spec : {M : Type 1} → statement M
 method_key_spec =

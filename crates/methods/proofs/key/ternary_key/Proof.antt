@@ -10,8 +10,8 @@ ternary_key_spec =
     tie.close
     (tie.spec (λ c. search rules) (λ c. search rules) (λ c κs. search rules) (λ c. search rules) (λ c κs. search rules) (λ c. search rules)
     (λ c κs. search rules) (λ c. search rules) (λ c κs. search rules) (λ c. search rules) (λ c κs. search rules)
-    (λ c. let told = c.before.before.before.before in rw (told.sampler.given.1, c.before.enum_told.given.1, c.plain.ensures))
-    (λ c. let told = c.before.before.before.before in rw (told.sampler.given.1, c.before.enum-told2.given.1, c.plain2.ensures))
-    (λ c. let told = c.before.before.before.before in rw (told.sampler.given.1, c.before.enum-told3.given.1, c.plain3.ensures))
-    (λ c. c.plain4.ensures ∙ ap ternary_key (sym c.before.before.sampler2.given.1))
-    (λ c. c.plain5.ensures ∙ ap ternary_key (sym c.before.before.sampler3.given.1)))
+    (λ c. let told = c.before.before.before.before in rw (told.sampler-1.given.1, c.before.enum_told-1.given.1, c.plain.ensures))
+    (λ c. let told = c.before.before.before.before in rw (told.sampler-1.given.1, c.before.enum_told-in-Zero-1.given.1, c.plain-in-Zero.ensures))
+    (λ c. let told = c.before.before.before.before in rw (told.sampler-1.given.1, c.before.enum_told-in-One-1.given.1, c.plain-in-One.ensures))
+    (λ c. c.plain-in-Nonzero.ensures ∙ ap ternary_key (sym c.before.before.sampler-in-Nonzero-1.given.1))
+    (λ c. c.plain-in-General.ensures ∙ ap ternary_key (sym c.before.before.sampler-in-General-1.given.1)))

@@ -10,31 +10,31 @@ use Rattle.numbers.proofs.WideNumbers.{answer-refused, answer-constant, answer-s
 use Rattle.numbers.proofs.wide_words.answer_of.Statement.{statement}
 use Rattle.numbers.proofs.wide_words.answer_of.Tie as tie
 
-returns : tie.Need-returns
-returns c = c.refused.ensures ∙ answer-refused _ _ _ _ _ _ c.before.before.draw-number.ensures c.before.if1.true
+returns : tie.Need-returns-then-number-ne0
+returns c = c.refused.ensures ∙ answer-refused _ _ _ _ _ _ c.before.before.draw_number-number.ensures c.before.if-number-ne0.true
 
 -- past the first test no number refuses, and the place and the length are good
-none : (c : tie.Else1) → let a = c.before.before.args in 0 ≡ draw_number a.count a.place a.n a.own_val
-none c = sym c.if1.false ∙ c.before.draw-number.ensures
+none : (c : tie.Else-number-ne0) → let a = c.before.before.args in 0 ≡ draw_number a.count a.place a.n a.own
+none c = sym c.if-number-ne0.false ∙ c.before.draw_number-number.ensures
 
-good : (c : tie.Else1) → let a = c.before.before.args in (a.place ≤ a.count) × (a.n ≤ output_limit)
+good : (c : tie.Else-number-ne0) → let a = c.before.before.args in (a.place ≤ a.count) × (a.n ≤ output_limit)
 good c =
     let a = c.before.before.args in
-    let passed = number_passed a.count a.place a.n a.own_val c.before.draw-number.ensures c.if1.false in
+    let passed = number_passed a.count a.place a.n a.own c.before.draw_number-number.ensures c.if-number-ne0.false in
     (passed.0, passed.1)
 
-returns-2 : tie.Need-returns-2
-returns-2 c = c.succeeded.ensures ∙ answer-constant _ _ _ _ _ (none c.before.before) (not-true _ c.before.if2.true)
+returns-2 : tie.Need-returns-then-not-reads
+returns-2 c = c.succeeded.ensures ∙ answer-constant _ _ _ _ _ (none c.before.before) (not-true _ c.before.if-not-reads.true)
 
-returns-3 : tie.Need-returns-3
+returns-3 : tie.Need-returns-then-count-place
 returns-3 c =
-    c.refused2.ensures
-    ∙ answer-short _ _ _ _ _ (none c.before.before.before) (not-false _ c.before.before.if2.false) c.before.if3.true
+    c.refused-then-count-place.ensures
+    ∙ answer-short _ _ _ _ _ (none c.before.before.before) (not-false _ c.before.before.if-not-reads.false) c.before.if-count-place.true
 
-returns-4 : tie.Need-returns-4
+returns-4 : tie.Need-returns
 returns-4 c =
-    c.succeeded2.ensures
-    ∙ answer_read _ _ _ _ _ (none c.before.before.before) (not-false _ c.before.before.if2.false) c.before.if3.false
+    c.succeeded-2.ensures
+    ∙ answer_read _ _ _ _ _ (none c.before.before.before) (not-false _ c.before.before.if-not-reads.false) c.before.if-count-place.false
 
 pub answer_of_spec : {M : Type 1} → statement M
 answer_of_spec =

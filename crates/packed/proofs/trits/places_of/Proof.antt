@@ -7,16 +7,16 @@ use Rattle.packed.proofs.TritTable.{index_of, index_below}
 use Rattle.packed.proofs.trits.places_of.Statement.{statement}
 use Rattle.packed.proofs.trits.places_of.Tie as tie
 
-returns : tie.Need-returns
+returns : tie.Need-returns-in-Table
 unfolding places_by
 returns c =
     let matched = c.before.before in
     let a = matched.before.before.args in
-    rw (c.wide.ensures, matched.enum_told.given.1, index_of a.byte (ltb a.byte 243))
+    rw (c.wide-group.ensures, matched.enum_told-1.given.1, index_of a.byte (ltb a.byte 243))
 
-returns-2 : tie.Need-returns-2
+returns-2 : tie.Need-returns-in-Division
 unfolding places_by
-returns-2 c = rw c.enum-told2.given.1
+returns-2 c = rw c.enum_told-in-Division-1.given.1
 
 pub places_of_spec : {M : Type 1} → statement M
 places_of_spec =

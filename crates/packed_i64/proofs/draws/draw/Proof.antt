@@ -10,43 +10,43 @@ use Rattle.packed.proofs.Deciding.{table-refused, table_lacking, table_filled}
 use Rattle.packed_i64.proofs.draws.draw.Statement.{statement}
 use Rattle.packed_i64.proofs.draws.draw.Tie as tie
 
-returns : tie.Need-returns
+returns : tie.Need-returns-then-number-ne0
 returns c = (
-  rw c.refused.ensures (table-refused _ _ _ _ _ _ _ _ c.before.before.draw-number.ensures c.before.if1.true),
+  rw c.refused.ensures (table-refused _ _ _ _ _ _ _ _ c.before.before.draw_number-number.ensures c.before.if-number-ne0.true),
   ap sums c.refused.ensures,
 )
 
 -- a draw that no number refuses has a good place
-passed : (c : tie.Else1) → let a = c.before.before.before.args in a.place ≤ length a.words.now
+passed : (c : tie.Else-number-ne0) → let a = c.before.before.before.args in a.place ≤ length a.words.now
 passed c =
     let a = c.before.before.before.args in
-    (number_passed (length a.words.now) a.place (length a.output.now) 0 c.before.draw-number.ensures c.if1.false).0
+    (number_passed (length a.words.now) a.place (length a.output.now) 0 c.before.draw_number-number.ensures c.if-number-ne0.false).0
 
-sub-if2 : tie.Need-overflow-sub-if2
+sub-if2 : tie.Need-overflow_sub-count
 sub-if2 c = passed c
 
-returns-2 : tie.Need-returns-2
+returns-2 : tie.Need-returns-then-count-place
 returns-2 c =
     let test = c.before.before.before.before in (
-      rw c.refused2.ensures
-          (table_lacking _ _ _ _ _ _ _ _ test.before.before.draw-number.ensures test.before.if1.false test.if2.true
+      rw c.refused-then-count-place.ensures
+          (table_lacking _ _ _ _ _ _ _ _ test.before.before.draw_number-number.ensures test.before.if-number-ne0.false test.if-count-place.true
           c.before.before.clear.ensures),
-      ap sums c.refused2.ensures,
+      ap sums c.refused-then-count-place.ensures,
     )
 
-fill-words-requires : tie.Need-fill-words-requires
+fill-words-requires : tie.Need-fill_words-requires
 fill-words-requires c κs =
     let test = c.before in
     let pre = test.before.before.before.before.requires in
-    (passed test.before, le_trans pre.1 (mul-le-mul_right _ test.if2.false), pre.0)
+    (passed test.before, le_trans pre.1 (mul-le-mul_right _ test.if-count-place.false), pre.0)
 
-returns-3 : tie.Need-returns-3
+returns-3 : tie.Need-returns
 returns-3 c =
     let test = c.before.before.before.before in
     let pre = test.before.before.before.before.requires in (
       rw c.succeeded.ensures
-          (table_filled _ _ _ _ _ _ _ _ test.before.before.draw-number.ensures test.before.if1.false pre.0.positive test.if2.false pre.1
-          c.before.before.fill-words.ensures),
+          (table_filled _ _ _ _ _ _ _ _ test.before.before.draw_number-number.ensures test.before.if-number-ne0.false pre.0.positive test.if-count-place.false pre.1
+          c.before.before.fill_words.ensures),
       ap sums c.succeeded.ensures,
     )
 

@@ -7,14 +7,14 @@ use Rattle.packed.proofs.TritLoop.{once, byte_stored}
 use Rattle.packed_i64.proofs.stores.store_byte.Statement.{statement}
 use Rattle.packed_i64.proofs.stores.store_byte.Tie as tie
 
-mul-result : tie.Need-overflow-mul-result
+mul-result : tie.Need-overflow_mul-result
 mul-result c = omega (arith, once (ltb c.before.before.before.args.byte 243))
 
-add-result : tie.Need-overflow-add-result
+add-result : tie.Need-overflow_add-result
 add-result c = omega (arith, once (ltb c.before.before.before.args.byte 243))
 
 returns : tie.Need-returns
-returns c = byte_stored _ _ _ c.before.before.before.requires.0 refl c.before.store-trits.ensures
+returns c = byte_stored _ _ _ c.before.before.before.requires.0 refl c.before.store_trits.ensures
 
 pub store_byte_spec : {M : Type 1} → statement M
 store_byte_spec =

@@ -5,7 +5,7 @@ use lib.ListN.{length-set}
 use Rattle.packed_i64.proofs.stores.store_pair.Statement.{statement}
 use Rattle.packed_i64.proofs.stores.store_pair.Tie as tie
 
-slice-set-from-second : tie.Need-slice-set-from-second
+slice-set-from-second : tie.Need-bounds-output-at-2
 slice-set-from-second c = simp length-set (omega arith)
 
 pub store_pair_spec : {M : Type 1} → statement M

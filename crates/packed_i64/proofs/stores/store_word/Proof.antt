@@ -12,7 +12,7 @@ returns c =
     let third = fourth.before.before.before in
     let second = third.before.before.before in
     let first = second.before.before.before in
-    bytes-stored _ _ first.IsStore-byte.ensures (bytes-stored _ _ second.store-byte2.ensures (bytes-stored _ _ third.store-byte3.ensures fourth.store-byte4.ensures))
+    bytes-stored _ _ first.IsStore-byte.ensures (bytes-stored _ _ second.store_byte-two.ensures (bytes-stored _ _ third.store_byte-three.ensures fourth.store_byte.ensures))
 
 pub store_word_spec : {M : Type 1} → statement M
 store_word_spec =

@@ -15,15 +15,15 @@ use Rattle.packed_i64.proofs.ternary.sample_sparse_ternary_values_to.Tie as tie
 draw-requires : tie.Need-draw-requires
 draw-requires c κs =
     let made = c.before.before.before in
-    (made-paired (pos 0) (pos 0 ∷ pos 0 ∷ pos 1 ∷ negsuc 0 ∷ []) (omega arith) (rw made.before.minus_one.ensures at made.groups.ensures), omega arith)
+    (made-paired (pos 0) (pos 0 ∷ pos 0 ∷ pos 1 ∷ negsuc 0 ∷ []) (omega arith) (rw made.before.minus_one.ensures at made.groups-pairs.ensures), omega arith)
 
 returns : tie.Need-returns
 returns c =
     let called = c.before in
     let made = called.before.before.before.before in (
-      rw called.before.before.before.sparse-words.ensures at
+      rw called.before.before.before.sparse_words-words_needed.ensures at
           (called.draw.ensures.0.draws (λ cs. cs) (λ (v : ℤ). v) sparse_value (λ cs. sym (map_id cs)) refl
-          (made_agrees (pos 0) (pos 0 ∷ pos 0 ∷ pos 1 ∷ negsuc 0 ∷ []) (omega arith) (rw made.before.minus_one.ensures at made.groups.ensures) _ (below_four _ refl refl refl refl))),
+          (made_agrees (pos 0) (pos 0 ∷ pos 0 ∷ pos 1 ∷ negsuc 0 ∷ []) (omega arith) (rw made.before.minus_one.ensures at made.groups-pairs.ensures) _ (below_four _ refl refl refl refl))),
       reports_nothing called.draw.result called.draw.ensures.1,
     )
 

@@ -12,16 +12,16 @@ use Rattle.packed_u64.proofs.binary.sample_uniform_binary_values_to.Statement.{s
 use Rattle.packed_u64.proofs.binary.sample_uniform_binary_values_to.Tie as tie
 
 draw-requires : tie.Need-draw-requires
-draw-requires c κs = (made-paired 0 (0 ∷ 1 ∷ []) (omega arith) c.before.before.before.bits.ensures, omega arith)
+draw-requires c κs = (made-paired 0 (0 ∷ 1 ∷ []) (omega arith) c.before.before.before.bits-pairs.ensures, omega arith)
 
 returns : tie.Need-returns
 returns c =
     let called = c.before.before in
     let encoding = called.before.before.before.before.before.before.before.args.encoding in
     let made = called.before.before.before.before in (
-      rw called.before.before.before.binary-words.ensures at
+      rw called.before.before.before.binary_words-words_needed.ensures at
           (called.draw.ensures.0.draws (held encoding) (held_one encoding) pos (λ cs. refl) refl
-          (made_agrees 0 (0 ∷ 1 ∷ []) (omega arith) made.bits.ensures _ (below_two _ refl refl))),
+          (made_agrees 0 (0 ∷ 1 ∷ []) (omega arith) made.bits-pairs.ensures _ (below_two _ refl refl))),
       reports_nothing called.draw.result called.draw.ensures.1,
     )
 

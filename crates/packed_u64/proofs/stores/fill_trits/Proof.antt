@@ -6,14 +6,14 @@ use Rattle.packed.proofs.TritLoop.{trits_all, looked_all}
 use Rattle.packed_u64.proofs.stores.fill_trits.Statement.{statement}
 use Rattle.packed_u64.proofs.stores.fill_trits.Tie as tie
 
-fill-bytes-requires : tie.Need-fill-bytes-requires
+fill-bytes-requires : tie.Need-fill_bytes-requires
 fill-bytes-requires c κs =
     let stored = c.before.before.before in
     (stored.store_words_lem.ensures.0.0, stored.store_words_lem.ensures.0.1, stored.before.before.before.before.before.requires.1)
 
 returns : tie.Need-returns
 returns c =
-    let filled = c.before.before.fill-bytes.ensures in
+    let filled = c.before.before.fill_bytes.ensures in
     let stored = c.before.before.before.before.before.before in
     let a = stored.before.before.before.before.before.args in
     let all = trits_all 0 a.pairs.now a.output.now (drop a.place a.words.now) in (

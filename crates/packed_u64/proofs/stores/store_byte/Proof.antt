@@ -7,12 +7,12 @@ use Rattle.packed.proofs.TritLoop.{once, byte_stored}
 use Rattle.packed_u64.proofs.stores.store_byte.Statement.{statement}
 use Rattle.packed_u64.proofs.stores.store_byte.Tie as tie
 
-mul-result : tie.Need-overflow-mul-result
+mul-result : tie.Need-overflow_mul-result
 mul-result c =
     let args = c.before.before.before.before.before.before.args in
     omega (arith, once (ltb args.byte 243))
 
-add-result : tie.Need-overflow-add-result
+add-result : tie.Need-overflow_add-result
 add-result c =
     let args = c.before.before.before.before.before.before.args in
     omega (arith, once (ltb args.byte 243))
@@ -20,7 +20,7 @@ add-result c =
 returns : tie.Need-returns
 returns c =
     let pre = c.before.before.before.before.before.before.requires in
-    byte_stored _ _ _ pre.0 refl c.before.before.store-trits.ensures
+    byte_stored _ _ _ pre.0 refl c.before.before.store_trits.ensures
 
 pub store_byte_spec : {M : Type 1} → statement M
 store_byte_spec =

@@ -5,7 +5,7 @@ use lib.ListN.{length-set}
 use Rattle.packed_u64.proofs.stores.store_pair.Statement.{statement}
 use Rattle.packed_u64.proofs.stores.store_pair.Tie as tie
 
-slice-write-output-2 : tie.Need-slice-write-output-2
+slice-write-output-2 : tie.Need-bounds-output-at-2
 slice-write-output-2 c = simp length-set (omega arith)
 
 pub store_pair_spec : {M : Type 1} → statement M

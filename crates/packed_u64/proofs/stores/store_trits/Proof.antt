@@ -10,18 +10,18 @@ use Rattle.packed_u64.proofs.stores.store_trits.Statement.{statement}
 use Rattle.packed_u64.proofs.stores.store_trits.Tie as tie
 
 -- the places that were found are in the table of pairs
-within : (c : tie.After-places-of) → Within c.places_of.result
+within : (c : tie.After-places_of-places) → Within c.places_of-places.result
 within c =
     let start = c.before.before.before in
-    rw c.places_of.ensures (places-within start.args.by start.requires.2.kept start.args.byte start.requires.1)
+    rw c.places_of-places.ensures (places-within start.args.by start.requires.2.kept start.args.byte start.requires.1)
 
-store-pair-requires : tie.Need-store-pair-requires
+store-pair-requires : tie.Need-store_pair-requires
 store-pair-requires c κs =
     let found = c.before in
     let start = found.before.before.before in
     (omega (arith, start.requires.0), omega (arith, (within found).first, start.requires.2.paired.sized))
 
-store-pair-requires-2 : tie.Need-store-pair-requires-2
+store-pair-requires-2 : tie.Need-store_pair-requires-2
 store-pair-requires-2 c κs =
     let stored = c.before.before.before in
     let found = stored.before.before in
@@ -29,17 +29,17 @@ store-pair-requires-2 c κs =
     (omega (arith, stored.store_pair.auto.0), omega (arith, (within found).second, start.requires.2.paired.sized))
 
 -- where the last trit stands, too
-last_within : (c : tie.After-slice-known3) → let found = c.before.before.before.before.before.before.before.before in
-    found.places_of.result.last < length found.before.before.before.args.pairs.now
+last_within : (c : tie.After-slice_known-3-1) → let found = c.before.before.before.before.before.before.before.before in
+    found.places_of-places.result.last < length found.before.before.before.args.pairs.now
 last_within c =
     let found = c.before.before.before.before.before.before.before.before in
     omega (arith, (within found).last, found.before.before.before.requires.2.paired.sized)
 
-same_length : tie.Need-same-length
+same_length : tie.Need-shape_of-output
 same_length c =
     let second = c.before.before.before in
     let first = second.before.before.before.before in
-    simp length-set (second.store-pair2.auto.0 ∙ first.store_pair.auto.0)
+    simp length-set (second.store_pair-2.auto.0 ∙ first.store_pair.auto.0)
 
 returns : tie.Need-returns
 returns c =
@@ -48,7 +48,7 @@ returns c =
     let found = first.before.before in
     let start = found.before.before.before in
     five_trits _ _ _ _ start.args.byte start.requires.0 start.requires.2.paired
-    (λ b. found.places_of.ensures ∙ same-places start.args.by start.requires.2.kept start.args.byte b) first.store_pair.ensures second.store-pair2.ensures
+    (λ b. found.places_of-places.ensures ∙ same-places start.args.by start.requires.2.kept start.args.byte b) first.store_pair.ensures second.store_pair-2.ensures
 
 pub store_trits_spec : {M : Type 1} → statement M
 store_trits_spec =

@@ -15,58 +15,58 @@ use Rattle.packed.proofs.TritLoop.{taken_forward, taken-rejected}
 use Rattle.packed_u64.proofs.ternary.draw_uniform_ternary.Statement.{statement}
 use Rattle.packed_u64.proofs.ternary.draw_uniform_ternary.Tie as tie
 
-returns : tie.Need-returns
+returns : tie.Need-returns-then-number-ne0
 returns c = (
-  rw c.refused.ensures (rule-refused _ _ _ _ _ c.before.before.draw-number.ensures _ c.before.if1.true),
-  reports_refused _ c.before.if1.true c.refused.ensures,
+  rw c.refused.ensures (rule-refused _ _ _ _ _ c.before.before.draw_number-number.ensures _ c.before.if-number-ne0.true),
+  reports_refused _ c.before.if-number-ne0.true c.refused.ensures,
 )
 
 -- no coefficient is wanted
-returns-2 : tie.Need-returns-2
+returns-2 : tie.Need-returns-then-n-eq0
 returns-2 c =
-    let none = c.before.if2.true in
+    let none = c.before.if-n-eq0.true in
     let judged = c.before.before in
     let a = judged.before.before.before.before.args in (
       rw c.succeeded.ensures
-          (trits_none (held a.encoding) (held_one a.encoding) (λ cs. refl) a.words.now a.place a.output.now judged.before.draw-number.ensures judged.if1.false none),
+          (trits_none (held a.encoding) (held_one a.encoding) (λ cs. refl) a.words.now a.place a.output.now judged.before.draw_number-number.ensures judged.if-number-ne0.false none),
       reports_bytes _ c.succeeded.ensures (none_rejected (drop a.place a.words.now) none),
     )
 
 -- a draw that no number refuses has a good place and a good length
-good : (c : tie.Else1) → let a = c.before.before.before.before.args in (a.place ≤ length a.words.now) × (length a.output.now ≤ 65536)
+good : (c : tie.Else-number-ne0) → let a = c.before.before.before.before.args in (a.place ≤ length a.words.now) × (length a.output.now ≤ 65536)
 good c =
     let a = c.before.before.before.before.args in
-    let passed = number_passed (length a.words.now) a.place (length a.output.now) 0 c.before.draw-number.ensures c.if1.false in
+    let passed = number_passed (length a.words.now) a.place (length a.output.now) 0 c.before.draw_number-number.ensures c.if-number-ne0.false in
     (passed.0, passed.1)
 
-fill-trits-requires : tie.Need-fill-trits-requires
+fill-trits-requires : tie.Need-fill_trits-ended-requires
 fill-trits-requires c κs =
     let tabled = c.before.before.before in
     let made = tabled.before in
     let judged = made.before.before.before in
     let minus = made.before.minus_one.result in (
       (good judged).0,
-      record { paired = made-paired 0 (minus ∷ 0 ∷ 1 ∷ []) (omega arith) made.trits.ensures; kept = tabled.trit-table.ensures.0 },
+      record { paired = made-paired 0 (minus ∷ 0 ∷ 1 ∷ []) (omega arith) made.trits-pairs.ensures; kept = tabled.trit_table-groups.ensures.0 },
     )
 
-sub-rejected-bytes : tie.Need-overflow-sub-rejected-bytes
+sub-rejected-bytes : tie.Need-overflow_sub-ended
 sub-rejected-bytes c =
     let called = c.before.before.before.before in
-    taken_forward _ _ _ called.fill-trits.ensures.1 c.before.if3.true
+    taken_forward _ _ _ called.fill_trits-ended.ensures.1 c.before.if-ended.true
 
 -- from where the output was filled back to where no number refused
-abbrev judged-before : tie.After-fill-trits → tie.Else1
+abbrev judged-before : tie.After-fill_trits-ended → tie.Else-number-ne0
 judged-before c = c.before.before.before.before.before.before.before.before
 
-add-rejected-bytes : tie.Need-overflow-add-rejected-bytes
+add-rejected-bytes : tie.Need-overflow_add-n
 add-rejected-bytes c = omega (arith, good (judged-before c.before.before.before.before))
 
-add-rejected-bytes-2 : tie.Need-overflow-add-rejected-bytes-2
+add-rejected-bytes-2 : tie.Need-overflow_add-ended
 add-rejected-bytes-2 c =
     let called = c.before.before.before.before.before in
-    omega (arith, good (judged-before called), called.fill-trits.ensures.1.few)
+    omega (arith, good (judged-before called), called.fill_trits-ended.ensures.1.few)
 
-returns-3 : tie.Need-returns-3
+returns-3 : tie.Need-returns-then-ended
 returns-3 c =
     let tested = c.before.before.before.before in
     let called = tested.before.before.before in
@@ -74,24 +74,24 @@ returns-3 c =
     let judged = made.before.before.before in
     let a = judged.before.before.before.before.args in
     let minus = held_one a.encoding (negsuc 0) in (
-      rw c.succeeded-after.ensures
-          (trits_filled (held a.encoding) (held_one a.encoding) (λ cs. refl) a.words.now a.place a.output.now judged.before.draw-number.ensures judged.if1.false _
-          (made_agrees 0 (minus ∷ 0 ∷ 1 ∷ []) (omega arith) (rw made.before.minus_one.ensures at made.trits.ensures) _ (below-three _ refl refl refl))
-          called.fill-trits.ensures.0.0 (rw tested.if3.true at called.fill-trits.ensures.0.1)),
-      reports_bytes _ c.succeeded-after.ensures
-          (taken-rejected _ _ _ called.fill-trits.ensures.1 tested.if3.true c.before.rejected-bytes.ensures),
+      rw c.succeeded_after.ensures
+          (trits_filled (held a.encoding) (held_one a.encoding) (λ cs. refl) a.words.now a.place a.output.now judged.before.draw_number-number.ensures judged.if-number-ne0.false _
+          (made_agrees 0 (minus ∷ 0 ∷ 1 ∷ []) (omega arith) (rw made.before.minus_one.ensures at made.trits-pairs.ensures) _ (below-three _ refl refl refl))
+          called.fill_trits-ended.ensures.0.0 (rw tested.if-ended.true at called.fill_trits-ended.ensures.0.1)),
+      reports_bytes _ c.succeeded_after.ensures
+          (taken-rejected _ _ _ called.fill_trits-ended.ensures.1 tested.if-ended.true c.before.rejected_bytes-rejected.ensures),
     )
 
-returns-4 : tie.Need-returns-4
+returns-4 : tie.Need-returns
 returns-4 c =
     let tested = c.before.before.before.before.before in
     let called = tested.before.before.before in
     let judged = judged-before called in
     let a = judged.before.before.before.before.args in (
-      rw c.refused2.ensures
-          (trits_lacking (held a.encoding) (held_one a.encoding) (λ cs. refl) a.words.now a.place a.output.now judged.before.draw-number.ensures judged.if1.left
-          _ (rw tested.if3.false at called.fill-trits.ensures.0.1) (rw called.fill-trits.auto.0 at c.before.before.before.clear.ensures)),
-      reports_refused _ (λ z. omega arith) c.refused2.ensures,
+      rw c.refused-2.ensures
+          (trits_lacking (held a.encoding) (held_one a.encoding) (λ cs. refl) a.words.now a.place a.output.now judged.before.draw_number-number.ensures judged.if-number-ne0.false
+          _ (rw tested.if-ended.false at called.fill_trits-ended.ensures.0.1) (rw called.fill_trits-ended.auto.0 at c.before.before.before.clear.ensures)),
+      reports_refused _ (λ z. omega arith) c.refused-2.ensures,
     )
 
 pub draw_uniform_ternary_spec : {M : Type 1} → statement M

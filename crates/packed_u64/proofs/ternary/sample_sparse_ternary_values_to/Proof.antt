@@ -16,7 +16,7 @@ draw-requires : tie.Need-draw-requires
 draw-requires c κs =
     let made = c.before.before.before in
     let minus = made.before.minus_one.result in
-    (made-paired 0 (0 ∷ 0 ∷ 1 ∷ minus ∷ []) (omega arith) made.groups.ensures, omega arith)
+    (made-paired 0 (0 ∷ 0 ∷ 1 ∷ minus ∷ []) (omega arith) made.groups-pairs.ensures, omega arith)
 
 returns : tie.Need-returns
 returns c =
@@ -24,9 +24,9 @@ returns c =
     let made = called.before.before.before.before in
     let encoding = made.before.before.before.before.args.encoding in
     let minus = held_one encoding (negsuc 0) in (
-      rw called.before.before.before.sparse-words.ensures at
+      rw called.before.before.before.sparse_words-words_needed.ensures at
           (called.draw.ensures.0.draws (held encoding) (held_one encoding) sparse_value (λ cs. refl) refl
-          (made_agrees 0 (0 ∷ 0 ∷ 1 ∷ minus ∷ []) (omega arith) (rw made.before.minus_one.ensures at made.groups.ensures) _ (below_four _ refl refl refl refl))),
+          (made_agrees 0 (0 ∷ 0 ∷ 1 ∷ minus ∷ []) (omega arith) (rw made.before.minus_one.ensures at made.groups-pairs.ensures) _ (below_four _ refl refl refl refl))),
       reports_nothing called.draw.result called.draw.ensures.1,
     )
 

@@ -8,22 +8,22 @@ use borrow.Author.Rules.{rules}
 use Rattle.prepared_draws.proofs.encoded.residue_number.Statement.{statement}
 use Rattle.prepared_draws.proofs.encoded.residue_number.Tie as tie
 
-returns : tie.Need-returns
-returns c = rw (← c.before.length-number.ensures) (sym (first_some _ _ (omega (arith, c.if1.true))))
+returns : tie.Need-returns-then-number-ne0
+returns c = rw (← c.before.length_number-number.ensures) (sym (first_some _ _ (omega (arith, c.if-number-ne0.true))))
 
-returns-2 : tie.Need-returns-2
+returns-2 : tie.Need-returns-then-is_binomial-modulus
 unfolding first_of
 returns-2 c =
     let long = c.before.before in
-    rw (← long.before.length-number.ensures, long.if1.false, ← c.before.is-binomial.ensures, c.if2.true)
+    rw (← long.before.length_number-number.ensures, long.if-number-ne0.false, ← c.before.is_binomial.ensures, c.if-is_binomial-modulus.true)
 
-returns-3 : tie.Need-returns-3
+returns-3 : tie.Need-returns
 unfolding first_of
 returns-3 c =
     let at = c.before.before in
     let long = at.before.before in
-    rw (← long.before.length-number.ensures, long.if1.false, ← at.before.is-binomial.ensures, at.if2.false, ← c.before.maximum-magnitude.ensures)
-    (c.modulus-number.ensures ∙ sym (first_alone _))
+    rw (← long.before.length_number-number.ensures, long.if-number-ne0.false, ← at.before.is_binomial.ensures, at.if-is_binomial-modulus.false, ← c.before.maximum_magnitude.ensures)
+    (c.modulus_number.ensures ∙ sym (first_alone _))
 
 pub residue_number_spec : {M : Type 1} → statement M
 residue_number_spec =

@@ -11,33 +11,33 @@ use Rattle.prepared_draws.proofs.Residues.{residues-above, asked_refuses, encode
 use Rattle.prepared_draws.proofs.encoded.sample_encoded_to.Statement.{statement}
 use Rattle.prepared_draws.proofs.encoded.sample_encoded_to.Tie as tie
 
-returns : tie.Need-returns
+returns : tie.Need-returns-then-refusal-ne0
 unfolding judged
 returns c =
-    let taken = c.before.if1.true in
+    let taken = c.before.if-refusal-ne0.true in
     (rw (c.refused.ensures, ne_eqb _ 0 taken), reports_refused _ taken c.refused.ensures)
 
-returns-2 : tie.Need-returns-2
+returns-2 : tie.Need-returns-then-asked-ne0
 returns-2 c =
     let asked = c.before.before in
-    let number = c.before.draw-number.ensures in (
-      rw c.refused2.ensures
-          (by-method _ _ asked.before.before.if1.false
-          (encoded_asked _ _ _ _ _ _ asked.before.residue-number.ensures asked.if2.true number)),
-      reports_refused _ (asked_refuses _ _ _ asked.if2.true number) c.refused2.ensures,
+    let number = c.before.draw_number-number.ensures in (
+      rw c.refused-then-asked-ne0.ensures
+          (by-method _ _ asked.before.before.if-refusal-ne0.false
+          (encoded_asked _ _ _ _ _ _ asked.before.residue_number-asked.ensures asked.if-asked-ne0.true number)),
+      reports_refused _ (asked_refuses _ _ _ asked.if-asked-ne0.true number) c.refused-then-asked-ne0.ensures,
     )
 
-sub-minus-one : tie.Need-overflow-sub-minus-one
+sub-minus-one : tie.Need-overflow_sub-minus_one
 sub-minus-one c =
     let a = c.before.before.before.before.before.before.before.before.before.before.args in
-    residues-above a.by.prepared.method (length a.output.now) a.by.modulus (sym c.before.residue-number.ensures ∙ c.if2.false)
+    residues-above a.by.prepared.method (length a.output.now) a.by.modulus (sym c.before.residue_number-asked.ensures ∙ c.if-asked-ne0.false)
 
-returns-3 : tie.Need-returns-3
+returns-3 : tie.Need-returns
 returns-3 c =
     let asked = c.before.before.before.before in
-    let drawn = c.before.before.sample-to-with.ensures in (
-      by-method _ _ asked.before.before.if1.false
-          (encoded_drawn _ _ _ _ _ _ asked.before.residue-number.ensures asked.if2.false drawn.0),
+    let drawn = c.before.before.sample_to_with.ensures in (
+      by-method _ _ asked.before.before.if-refusal-ne0.false
+          (encoded_drawn _ _ _ _ _ _ asked.before.residue_number-asked.ensures asked.if-asked-ne0.false drawn.0),
       drawn.1,
     )
 

@@ -6,26 +6,26 @@ use borrow.Author.Rules.{rules}
 use Rattle.secret_key_method.proofs.prepare.block_size_number.Statement.{statement}
 use Rattle.secret_key_method.proofs.prepare.block_size_number.Tie as tie
 
-returns : tie.Need-returns
-returns c = rw c.if1.true
+returns : tie.Need-returns-then-block_size-eq0
+returns c = rw c.if-block_size-eq0.true
 
-returns-2 : tie.Need-returns-2
-returns-2 c = rw (c.before.enum_told.given.1, c.if2.true)
+returns-2 : tie.Need-returns-then-block_size-eq18446744073709551615
+returns-2 c = rw (c.before.enum_told-1.given.1, c.if-block_size-eq18446744073709551615.true)
 
-returns-3 : tie.Need-returns-3
+returns-3 : tie.Need-returns-else-block_size-eq18446744073709551615
 returns-3 c =
     let args = c.before.before.before.before.args in
     rw (
-      c.before.enum_told.given.1,
-      ne_eqb _ _ c.before.before.before.if1.false,
+      c.before.enum_told-1.given.1,
+      ne_eqb _ _ c.before.before.before.if-block_size-eq0.false,
       le-ltb (2 ^ 64 - 1) (suc args.block_size) (omega arith),
     )
 
-returns-4 : tie.Need-returns-4
+returns-4 : tie.Need-returns-in-ExactlyOne
 returns-4 c =
     rw (
-      c.enum-told2.given.1,
-      ne_eqb _ _ c.before.before.if1.false,
+      c.enum_told-in-ExactlyOne-1.given.1,
+      ne_eqb _ _ c.before.before.if-block_size-eq0.false,
       le-ltb (2 ^ 64 - 1) c.before.before.before.args.block_size (omega arith),
     )
 

@@ -6,41 +6,41 @@ use borrow.Author.Rules.{rules}
 use Rattle.secret_key_method.proofs.prepare.prepare.Statement.{statement}
 use Rattle.secret_key_method.proofs.prepare.prepare.Tie as tie
 
-returns : tie.Need-returns
+returns : tie.Need-returns-in-UniformBinary
 unfolding secret_number prepared
-returns c = c.judged.ensures ∙ ap preparing (sym c.before.enum_told.given.1)
+returns c = c.judged.ensures ∙ ap preparing (sym c.before.enum_told-1.given.1)
 
-returns-2 : tie.Need-returns-2
-returns-2 c = c.prepare-binary.ensures ∙ ap preparing (sym c.before.before.distr.given.1)
+returns-2 : tie.Need-returns-in-Binary
+returns-2 c = c.prepare_binary.ensures ∙ ap preparing (sym c.before.before.distr-1.given.1)
 
-returns-3 : tie.Need-returns-3
+returns-3 : tie.Need-returns-in-SparseTernary
 unfolding secret_number prepared
-returns-3 c = c.judged2.ensures ∙ ap preparing (sym c.before.enum-told2.given.1)
+returns-3 c = c.judged-in-SparseTernary.ensures ∙ ap preparing (sym c.before.enum_told-in-SparseTernary-1.given.1)
 
-returns-4 : tie.Need-returns-4
+returns-4 : tie.Need-returns-in-UniformTernary
 unfolding secret_number prepared
-returns-4 c = c.judged3.ensures ∙ ap preparing (sym c.before.enum-told3.given.1)
+returns-4 c = c.judged-in-UniformTernary.ensures ∙ ap preparing (sym c.before.enum_told-in-UniformTernary-1.given.1)
 
-returns-5 : tie.Need-returns-5
-returns-5 c = c.prepare-ternary.ensures ∙ ap preparing (sym c.before.before.distr2.given.1)
+returns-5 : tie.Need-returns-in-Ternary
+returns-5 c = c.prepare_ternary.ensures ∙ ap preparing (sym c.before.before.distr-in-Ternary-1.given.1)
 
-returns-6 : tie.Need-returns-6
+returns-6 : tie.Need-returns-in-FixedHammingWeightBinary
 unfolding secret_number prepared
-returns-6 c = c.judged4.ensures ∙ ap preparing (sym c.before.before.distr3.given.1)
+returns-6 c = c.judged-in-FixedHammingWeightBinary.ensures ∙ ap preparing (sym c.before.before.distr-in-FixedHammingWeightBinary-1.given.1)
 
-returns-7 : tie.Need-returns-7
-returns-7 c = c.prepare-blocks.ensures ∙ ap preparing (sym c.before.before.distr4.given.1)
+returns-7 : tie.Need-returns-in-BlockBinary
+returns-7 c = c.prepare_blocks.ensures ∙ ap preparing (sym c.before.before.distr-in-BlockBinary-1.given.1)
 
-returns-8 : tie.Need-returns-8
+returns-8 : tie.Need-returns-in-FixedHammingWeightTernary
 unfolding secret_number prepared
-returns-8 c = c.judged5.ensures ∙ ap preparing (sym c.before.before.distr5.given.1)
+returns-8 c = c.judged-in-FixedHammingWeightTernary.ensures ∙ ap preparing (sym c.before.before.distr-in-FixedHammingWeightTernary-1.given.1)
 
-returns-9 : tie.Need-returns-9
+returns-9 : tie.Need-returns-in-FixedCompositionTernary
 unfolding secret_number prepared
-returns-9 c = c.judged6.ensures ∙ ap preparing (sym c.before.before.distr6.given.1)
+returns-9 c = c.judged-in-FixedCompositionTernary.ensures ∙ ap preparing (sym c.before.before.distr-in-FixedCompositionTernary-1.given.1)
 
-returns-10 : tie.Need-returns-10
-returns-10 c = c.prepare-gaussian.ensures ∙ ap preparing (sym c.before.before.distr7.given.1)
+returns-10 : tie.Need-returns-in-Gaussian
+returns-10 c = c.prepare_gaussian.ensures ∙ ap preparing (sym c.before.before.distr-in-Gaussian-1.given.1)
 
 pub prepare_spec : {M : Type 1} → statement M
 prepare_spec =

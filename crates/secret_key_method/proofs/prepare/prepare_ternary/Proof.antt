@@ -7,12 +7,12 @@ use Rattle.secret_key_method.proofs.prepare.prepare_ternary.Tie as tie
 
 returns : tie.Need-returns
 returns c =
-    let threshold-of = c.before.before.before.before.before.threshold-of in
-    let threshold-of2 = c.before.before.before.before.threshold-of2 in
-    let check-ternary-probabilities = c.before.before.before.before.before.before.check-ternary-probabilities in
+    let threshold-of = c.before.before.before.before.before.threshold_of-negative in
+    let threshold-of2 = c.before.before.before.before.threshold_of-positive in
+    let check-ternary-probabilities = c.before.before.before.before.before.before.check_ternary_probabilities-number in
     c.judged.ensures
     ∙ rw (
-      c.before.from-thresholds.ensures,
+      c.before.from_thresholds-ends.ensures,
       threshold-of.ensures,
       threshold-of2.ensures,
       check-ternary-probabilities.ensures,

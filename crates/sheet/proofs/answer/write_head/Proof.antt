@@ -6,7 +6,7 @@ use Rattle.sheet.proofs.answer.write_head.Tie as tie
 
 returns : tie.Need-returns
 unfolding value_of
-returns c = c.before.before.write-line.ensures
+returns c = c.before.before.write_line.ensures
 
 pub write_head_spec : {M : Type 1} → statement M
 write_head_spec = tie.close (tie.spec (λ c. search rules) (λ c κs. search rules) (λ c. search rules) returns)

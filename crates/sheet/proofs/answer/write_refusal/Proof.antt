@@ -11,7 +11,7 @@ returns : tie.Need-returns
 unfolding answer_text
 returns c =
     let start = c.before.before.before.before.before in
-    rw (ne_eqb start.args.number 0 (λ e. ne_of_lt start.requires.1 (sym e))) c.before.before.write-head.ensures.0
+    rw (ne_eqb start.args.number 0 (λ e. ne_of_lt start.requires.1 (sym e))) c.before.before.write_head.ensures.0
 
 pub write_refusal_spec : {M : Type 1} → statement M
 write_refusal_spec = tie.close (tie.spec (λ c κs. search rules) (λ c. search rules) returns)

@@ -45,14 +45,14 @@ seven (a ∷ b ∷ c ∷ d ∷ e ∷ f ∷ []) h = absurd (omega (arith, h))
 seven (a ∷ b ∷ c ∷ d ∷ e ∷ f ∷ g ∷ []) h = grouped (eqb a 115) (eqb b 107) (eqb c 105) (eqb d 112) (eqb e 112) (eqb f 101) (eqb g 100)
 seven (a ∷ b ∷ c ∷ d ∷ e ∷ f ∷ g ∷ x ∷ l) h = absurd (omega (arith, h))
 
-returns : tie.Need-returns
-returns c = sym (different c.before.args.word.now skipped_word c.if1.true)
+returns : tie.Need-returns-then-word-ne7
+returns c = sym (different c.before.args.word.now skipped_word c.if-word-ne7.true)
 
-returns-2 : tie.Need-returns-2
+returns-2 : tie.Need-returns
 returns-2 c =
     let fourth = c.before.before.before in
     let test = fourth.before.before.before.before in
-    seven test.before.args.word.now test.if1.false
+    seven test.before.args.word.now test.if-word-ne7.false
 
 pub is_skipped_spec : {M : Type 1} → statement M
 is_skipped_spec =

@@ -12,7 +12,7 @@ use Rattle.sheet.proofs.fields.read_fields.Tie as tie
 returns : tie.Need-returns
 unfolding fields_of words_at
 returns c =
-    let read = c.before.read-words in
+    let read = c.before.read_words in
     let start = c.before.before.before.before.before in
     rw (part_read start.args.sheet.now 0 8 start.requires (replicate 8 0) read.new.0 refl read.ensures)
 

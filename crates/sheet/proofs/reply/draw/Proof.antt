@@ -11,19 +11,19 @@ use Rattle.sheet.proofs.reply.draw.Statement.{statement}
 use Rattle.sheet.proofs.reply.draw.Tie as tie
 
 -- the output has n elements
-sized : (c : tie.After-coefficients-room) → let n = c.before.before.before.before.args.f.n in
-    n ≡ length (take n c.coefficients-room.result)
+sized : (c : tie.After-coefficients_room-room) → let n = c.before.before.before.before.args.f.n in
+    n ≡ length (take n c.coefficients_room-room.result)
 sized c =
     let start = c.before.before.before.before in
-    prefix_length start.args.f.n c.coefficients-room.result
-    (omega (arith, start.requires.0, ap length c.coefficients-room.ensures, length-replicate 4096 (pos 0)))
+    prefix_length start.args.f.n c.coefficients_room-room.result
+    (omega (arith, start.requires.0, ap length c.coefficients_room-room.ensures, length-replicate 4096 (pos 0)))
 
-copy-patterns-requires : tie.Need-copy-patterns-requires
+copy-patterns-requires : tie.Need-copy_patterns-requires
 copy-patterns-requires c κs =
     let drawn = c.before.before in
     let room = drawn.before.before.before.before in
     let start = room.before.before.before.before in
-    omega (arith, start.requires.2, drawn.output.given, sized room)
+    omega (arith, start.requires.2, drawn.output-1.given, sized room)
 
 returns : tie.Need-returns
 returns c =
@@ -33,9 +33,9 @@ returns c =
     let start = room.before.before.before.before in
     let f = start.args.f in
     let ws = start.args.words.now in
-    let zeros = ap (take f.n) room.coefficients-room.ensures ∙ take-replicate f.n 4096 (pos 0) start.requires.0 in
-    let same = drawn_fields f ws start.requires.1 drawn.draw-question.result copied.copy-patterns.ensures drawn.draw-question.ensures.0 zeros in
-    (same, skipped-drawn f ws drawn.draw-question.result _ same (sym (sized room)) drawn.draw-question.ensures.1)
+    let zeros = ap (take f.n) room.coefficients_room-room.ensures ∙ take-replicate f.n 4096 (pos 0) start.requires.0 in
+    let same = drawn_fields f ws start.requires.1 drawn.draw_question-drawn.result copied.copy_patterns.ensures drawn.draw_question-drawn.ensures.0 zeros in
+    (same, skipped-drawn f ws drawn.draw_question-drawn.result _ same (sym (sized room)) drawn.draw_question-drawn.ensures.1)
 
 pub draw_spec : {M : Type 1} → statement M
 draw_spec =

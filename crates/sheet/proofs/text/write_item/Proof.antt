@@ -9,30 +9,30 @@ use Rattle.sheet.proofs.Lines.{value-text, item_length}
 use Rattle.sheet.proofs.text.write_item.Statement.{statement}
 use Rattle.sheet.proofs.text.write_item.Tie as tie
 
-write-byte-requires : tie.Need-write-byte-requires
+write-byte-requires : tie.Need-write_byte-after_space-requires
 write-byte-requires c κs =
     let start = c.before.before in
     omega (arith, start.requires, item_length start.args.later start.args.signed start.args.bits)
 
-write-byte-requires-2 : tie.Need-write-byte-requires-2
+write-byte-requires-2 : tie.Need-write_byte-after_sign-requires
 write-byte-requires-2 c κs =
     let space = c.before.before.before in
     let start = space.before.before.before in
-    let w = space.write_byte.ensures in
+    let w = space.write_byte-after_space.ensures in
     omega (arith, start.requires, item_length start.args.later start.args.signed start.args.bits, w.place, written-length w)
 
-write-number-requires : tie.Need-write-number-requires
+write-number-requires : tie.Need-write_number-requires
 write-number-requires c κs =
     let sign = c.before.before.before.before in
     let space = sign.before.before.before.before in
     let start = space.before.before.before in
-    let w = written_then space.write_byte.ensures sign.write-byte2.ensures in
+    let w = written_then space.write_byte-after_space.ensures sign.write_byte-after_sign.ensures in
     omega (
       arith,
       start.requires,
       item_length start.args.later start.args.signed start.args.bits,
-      space.write_byte.ensures.place,
-      sign.write-byte2.ensures.place,
+      space.write_byte-after_space.ensures.place,
+      sign.write_byte-after_sign.ensures.place,
       written-length w,
       ap (λ n. length (decimal n)) c.before.type_size.ensures,
     )
@@ -44,8 +44,8 @@ returns c =
     let space = sign.before.before.before.before in
     let start = space.before.before.before in
     rw value-text
-    (written_then space.write_byte.ensures
-    (written_then sign.write-byte2.ensures (rw size.type_size.ensures at c.before.before.write-number.ensures)))
+    (written_then space.write_byte-after_space.ensures
+    (written_then sign.write_byte-after_sign.ensures (rw size.type_size.ensures at c.before.before.write_number.ensures)))
 
 pub write_item_spec : {M : Type 1} → statement M
 write_item_spec =

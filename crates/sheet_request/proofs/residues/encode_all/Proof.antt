@@ -15,34 +15,34 @@ use Rattle.sheet_request.proofs.Encoding.{made_more}
 use Rattle.sheet_request.proofs.residues.encode_all.Statement.{statement}
 use Rattle.sheet_request.proofs.residues.encode_all.Tie as tie
 
-abbrev invariant-loop : tie.invariant-loop
-invariant-loop output₀ modulus n i₀ output i =
+abbrev invariant-loop-i : tie.invariant-loop-i
+invariant-loop-i output₀ modulus n i₀ output i =
     (i ≤ length output₀) × (length output ≡ length output₀) × (output ≡ written (map (λ (c : ℤ). pos (encode modulus c)) output₀) i output₀)
 
-abbrev decreases-loop : tie.decreases-loop
-decreases-loop output₀ modulus n i₀ output i = length output₀ - i
+abbrev decreases-loop-i : tie.decreases-loop-i
+decreases-loop-i output₀ modulus n i₀ output i = length output₀ - i
 
-loop-holds : tie.Need-loop-init invariant-loop decreases-loop
+loop-holds : tie.Need-loop-i-init invariant-loop-i decreases-loop-i
 loop-holds c = (omega arith, refl, refl)
 
-loop-again : tie.Need-loop-preserved invariant-loop decreases-loop
+loop-again : tie.Need-loop-i-preserved invariant-loop-i decreases-loop-i
 loop-again c =
-    let turn = c.before.before.before.loop in
+    let turn = c.before.before.before.loop-i in
     let a = c.before.before.before.before.args in
     let f : ℤ → ℤ = λ v. pos (encode a.modulus v) in
-    let read = to_z-of_z {w = w64} {z = get_or turn.output turn.i (pos 0)} (record { sfits = c.before.residue-arg.given }) in (
+    let read = to_z-of_z {w = w64} {z = get_or turn.output turn.i (pos 0)} (record { sfits = c.before.residue-arg-1.given }) in (
       omega arith,
       simp length-set turn.invariant.1,
       made_more f a.output.now turn.output turn.i (pos 0) (to_z w64 (of_z w64 c.residue.result)) turn.invariant.2 (omega arith)
-          (to_z-of_z (sfits_of c.residue.type-inv) ∙ c.residue.ensures ∙ ap f read),
+          (to_z-of_z (sfits_of c.residue.type_inv) ∙ c.residue.ensures ∙ ap f read),
     )
 
-same_length : tie.Need-same-length invariant-loop decreases-loop
-same_length c = c.before.loop.invariant.1
+same_length : tie.Need-shape_of-output invariant-loop-i decreases-loop-i
+same_length c = c.before.loop-i.invariant.1
 
-returns : tie.Need-returns invariant-loop decreases-loop
+returns : tie.Need-returns invariant-loop-i decreases-loop-i
 returns c =
-    let turn = c.before.loop in
+    let turn = c.before.loop-i in
     let a = c.before.before.args in
     let all : List ℤ = map (λ (v : ℤ). pos (encode a.modulus v)) a.output.now in
     let end : turn.i ≡ length a.output.now = omega arith in
@@ -51,5 +51,5 @@ returns c =
 pub encode_all_spec : {M : Type 1} → statement M
 encode_all_spec =
     tie.close
-    (tie.spec invariant-loop decreases-loop loop-holds (λ c. omega arith) (λ c. omega arith) (λ c κs. search rules) (λ c. omega arith) (λ c. omega arith)
+    (tie.spec invariant-loop-i decreases-loop-i loop-holds (λ c. omega arith) (λ c. omega arith) (λ c κs. search rules) (λ c. omega arith) (λ c. omega arith)
     (λ c. omega arith) (λ c. omega arith) loop-again same_length returns)

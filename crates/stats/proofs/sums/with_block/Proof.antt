@@ -8,15 +8,15 @@ use Rattle.stats.proofs.sums.with_block.Tie as tie
 add-requires-3 : tie.Need-add-requires-3
 add-requires-3 c κs =
     let start = c.before.before.before.before.before.before.before in
-    (start.requires.0.squares, halves_fit c.block-squares.result c.block-squares.ensures (omega (arith, start.well_formed)))
+    (start.requires.0.squares, halves_fit c.block_squares.result c.block_squares.ensures (omega (arith, start.well_formed)))
 
 returns : tie.Need-returns
 returns c =
     let second = c.before.before in
     let first = second.before.before in
     let squares = first.before.before.before.before.args.totals.squares in
-    let third = c.add3.ensures ∙ ap (λ n. value_of squares + n) c.before.block-squares.ensures in
-    (omega (arith, first.add.ensures), (omega (arith, second.add2.ensures), third))
+    let third = c.add-3.ensures ∙ ap (λ n. value_of squares + n) c.before.block_squares.ensures in
+    (omega (arith, first.add.ensures), (omega (arith, second.add-2.ensures), third))
 
 pub with_block_spec : {M : Type 1} → statement M
 with_block_spec =

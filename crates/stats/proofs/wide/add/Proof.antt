@@ -4,10 +4,10 @@ use Rattle.stats.proofs.Carrying.{carried, bit-few}
 use Rattle.stats.proofs.wide.add.Statement.{statement}
 use Rattle.stats.proofs.wide.add.Tie as tie
 
-add-t7 : tie.Need-overflow-add-t7
+add-t7 : tie.Need-overflow_add-result-2
 add-t7 c =
     let call = c.before.before.before in
-    omega (arith, call.before.requires, bit-few (ltb call.wrapping-add-u64.result call.before.args.x.low))
+    omega (arith, call.before.requires, bit-few (ltb call.wrapping_add_u64-low.result call.before.args.x.low))
 
 returns : tie.Need-returns
 returns c =
@@ -15,8 +15,8 @@ returns c =
     let start = call.before in
     let x = start.args.x in
     let y = start.args.y in
-    carried x.high x.low y.high y.low (omega (arith, start.well_formed)) (omega (arith, start.well_formed)) call.wrapping-add-u64.result
-    call.wrapping-add-u64.ensures
+    carried x.high x.low y.high y.low (omega (arith, start.well_formed)) (omega (arith, start.well_formed)) call.wrapping_add_u64-low.result
+    call.wrapping_add_u64-low.ensures
 
 pub add_spec : {M : Type 1} → statement M
 add_spec =

@@ -4,17 +4,17 @@ use Rattle.ternary.specs.Sampler.{plan_of}
 use Rattle.ternary.proofs.ternary.plan_of.Statement.{statement}
 use Rattle.ternary.proofs.ternary.plan_of.Tie as tie
 
-returns : tie.Need-returns
+returns : tie.Need-returns-in-Constant
 unfolding plan_of
-returns c = rw c.before.ends.given.1
+returns c = rw c.before.ends-1.given.1
 
-returns-2 : tie.Need-returns-2
+returns-2 : tie.Need-returns-in-Nonzero
 unfolding plan_of
-returns-2 c = rw c.before.ends2.given.1
+returns-2 c = rw c.before.ends-in-Nonzero-1.given.1
 
-returns-3 : tie.Need-returns-3
+returns-3 : tie.Need-returns-in-General
 unfolding plan_of
-returns-3 c = rw c.before.ends3.given.1
+returns-3 c = rw c.before.ends-in-General-1.given.1
 
 pub plan_of_spec : {M : Type 1} → statement M
 plan_of_spec =

@@ -5,14 +5,14 @@ use borrow.Author.Rules.{rules, sfits_of}
 use Rattle.ternary_i64.proofs.draw.encoded.Statement.{statement}
 use Rattle.ternary_i64.proofs.draw.encoded.Tie as tie
 
-returns : tie.Need-returns
-returns c = rw c.before.enum_told.given.1 (to_z-of_z (sfits_of c.minus_one.type-inv) ∙ c.minus_one.ensures)
+returns : tie.Need-returns-in-MinusOne
+returns c = rw c.before.enum_told-1.given.1 (to_z-of_z (sfits_of c.minus_one.type_inv) ∙ c.minus_one.ensures)
 
-returns-2 : tie.Need-returns-2
-returns-2 c = rw c.enum-told2.given.1 refl
+returns-2 : tie.Need-returns-in-Zero
+returns-2 c = rw c.enum_told-in-Zero-1.given.1 refl
 
-returns-3 : tie.Need-returns-3
-returns-3 c = rw c.enum-told3.given.1 refl
+returns-3 : tie.Need-returns-in-One
+returns-3 c = rw c.enum_told-in-One-1.given.1 refl
 
 pub encoded_spec : {M : Type 1} → statement M
 encoded_spec =

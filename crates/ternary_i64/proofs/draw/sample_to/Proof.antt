@@ -10,35 +10,35 @@ use Rattle.ternary.proofs.Plans.{plan_enough, plan_cleared, plan_refused, plan_c
 use Rattle.ternary_i64.proofs.draw.sample_to.Statement.{statement}
 use Rattle.ternary_i64.proofs.draw.sample_to.Tie as tie
 
-returns : tie.Need-returns
+returns : tie.Need-returns-then-answer-eq-OUT_OF_WORDS
 returns c =
     let told = c.before.before.before.before.before in
     let a = told.before.before.before.args in (
-      plan_cleared (λ cs. cs) (λ x. x) (λ cs. sym (map_id cs)) a.words.now a.place a.output.now _ told.before.plan-of.ensures
-          told.answer-of.ensures c.before.before.before.if1.true c.before.clear.ensures,
-      answer_reports _ _ _ _ _ told.answer-of.ensures (sampler_skips _ _ _),
+      plan_cleared (λ cs. cs) (λ x. x) (λ cs. sym (map_id cs)) a.words.now a.place a.output.now _ told.before.plan_of-plan.ensures
+          told.answer_of-answer.ensures c.before.before.before.if-answer-eq-OUT_OF_WORDS.true c.before.clear.ensures,
+      answer_reports _ _ _ _ _ told.answer_of-answer.ensures (sampler_skips _ _ _),
     )
 
-returns-2 : tie.Need-returns-2
+returns-2 : tie.Need-returns-then-answer-ne0
 returns-2 c =
     let told = c.before.before.before.before in
     let a = told.before.before.before.args in (
-      plan_refused (λ cs. cs) (λ x. x) (λ cs. sym (map_id cs)) a.words.now a.place a.output.now _ told.before.plan-of.ensures
-          told.answer-of.ensures c.before.before.if1.false c.if2.true refl,
-      answer_reports _ _ _ _ _ told.answer-of.ensures (sampler_skips _ _ _),
+      plan_refused (λ cs. cs) (λ x. x) (λ cs. sym (map_id cs)) a.words.now a.place a.output.now _ told.before.plan_of-plan.ensures
+          told.answer_of-answer.ensures c.before.before.if-answer-eq-OUT_OF_WORDS.false c.if-answer-ne0.true refl,
+      answer_reports _ _ _ _ _ told.answer_of-answer.ensures (sampler_skips _ _ _),
     )
 
-returns-3 : tie.Need-returns-3
+returns-3 : tie.Need-returns-then-not-plan
 returns-3 c =
     let value = c.before.before in
     let constant = value.before.before in
     let good = constant.before.before in
     let told = good.before.before.before.before in
     let a = told.before.before.before.args in (
-      plan_constant (λ cs. cs) (λ x. x) (λ cs. sym (map_id cs)) a.words.now a.place a.output.now _ told.before.plan-of.ensures
-          told.answer-of.ensures good.if2.false (not-true told.before.plan-of.result.reads constant.if3.true)
-          (c.before.fill.ensures ∙ ap (replicate (length a.output.now)) (to_z-of_z (sfits_of value.encoded.type-inv) ∙ value.encoded.ensures)),
-      answer_reports _ _ _ _ _ told.answer-of.ensures (sampler_skips _ _ _),
+      plan_constant (λ cs. cs) (λ x. x) (λ cs. sym (map_id cs)) a.words.now a.place a.output.now _ told.before.plan_of-plan.ensures
+          told.answer_of-answer.ensures good.if-answer-ne0.false (not-true told.before.plan_of-plan.result.reads constant.if-not-plan.true)
+          (c.before.fill.ensures ∙ ap (replicate (length a.output.now)) (to_z-of_z (sfits_of value.encoded.type_inv) ∙ value.encoded.ensures)),
+      answer_reports _ _ _ _ _ told.answer_of-answer.ensures (sampler_skips _ _ _),
     )
 
 fill-requires-2 : tie.Need-fill-requires-2
@@ -47,20 +47,20 @@ fill-requires-2 c κs =
     let good = reading.before.before in
     let told = good.before.before.before.before in
     let a = told.before.before.before.args in
-    plan_enough (λ cs. cs) (λ x. x) (λ cs. sym (map_id cs)) a.words.now a.place a.output.now a.ends told.before.plan-of.ensures
-    told.answer-of.ensures good.if2.false (not-false told.before.plan-of.result.reads reading.if3.false)
+    plan_enough (λ cs. cs) (λ x. x) (λ cs. sym (map_id cs)) a.words.now a.place a.output.now a.ends told.before.plan_of-plan.ensures
+    told.answer_of-answer.ensures good.if-answer-ne0.false (not-false told.before.plan_of-plan.result.reads reading.if-not-plan.false)
 
-returns-4 : tie.Need-returns-4
+returns-4 : tie.Need-returns
 returns-4 c =
     let reading = c.before.before.before in
     let good = reading.before.before in
     let told = good.before.before.before.before in
     let start = told.before.before in
     let a = start.before.args in (
-      plan_read (λ cs. cs) (λ x. x) (λ cs. sym (map_id cs)) a.words.now a.place a.output.now _ told.before.plan-of.ensures
-          told.answer-of.ensures good.if2.false (not-false told.before.plan-of.result.reads reading.if3.false)
-          (λ i. (start.shared-slice-known.given i).fits) c.before.fill2.ensures,
-      answer_reports _ _ _ _ _ told.answer-of.ensures (sampler_skips _ _ _),
+      plan_read (λ cs. cs) (λ x. x) (λ cs. sym (map_id cs)) a.words.now a.place a.output.now _ told.before.plan_of-plan.ensures
+          told.answer_of-answer.ensures good.if-answer-ne0.false (not-false told.before.plan_of-plan.result.reads reading.if-not-plan.false)
+          (λ i. (start.shared_slice_known-1.given i).fits) c.before.fill-2.ensures,
+      answer_reports _ _ _ _ _ told.answer_of-answer.ensures (sampler_skips _ _ _),
     )
 
 pub sample_to_spec : {M : Type 1} → statement M

@@ -13,25 +13,25 @@ use Rattle.ternary_i64.proofs.ends.element.Statement.{statement}
 use Rattle.ternary_i64.proofs.ends.element.Tie as tie
 
 -- the sum is a small number
-small : (c : tie.After-wide-word) → let p = c.before.before.before.before.args.plan in
-    p.above + bool_byte (ltb c.wide_word.result p.second_end) < 2 ^ 33
-small c = let start = c.before.before.before.before in above-small start.args.plan c.wide_word.result (search rules)
+small : (c : tie.After-wide_word-word) → let p = c.before.before.before.before.args.plan in
+    p.above + bool_byte (ltb c.wide_word-word.result p.second_end) < 2 ^ 33
+small c = let start = c.before.before.before.before in above-small start.args.plan c.wide_word-word.result (search rules)
 
-add-result : tie.Need-overflow-add-result
+add-result : tie.Need-overflow_add-result
 add-result c = let read = c.before.before.before.before in omega (arith, small read)
 
-cast-result-3 : tie.Need-overflow-cast-result-3
+cast-result-3 : tie.Need-overflow_cast-result-else-word-plan-2
 cast-result-3 c = let read = c.before.before.before.before in sfits_of (omega (arith, small read))
 
-returns : tie.Need-returns
+returns : tie.Need-returns-then-word-plan
 returns c =
     let read = c.before.before.before in
-    to_z-of_z (sfits_of c.minus_one.type-inv) ∙ c.minus_one.ensures ∙ rw (← read.wide_word.ensures) (value-below _ _ c.before.if1.true)
+    to_z-of_z (sfits_of c.minus_one.type_inv) ∙ c.minus_one.ensures ∙ rw (← read.wide_word-word.ensures) (value-below _ _ c.before.if-word-plan.true)
 
-returns-2 : tie.Need-returns-2
+returns-2 : tie.Need-returns-else-word-plan
 returns-2 c =
     let read = c.before.before.before.before in
-    signed (small read) ∙ rw (← read.wide_word.ensures) (value-above _ _ c.before.before.if1.false)
+    signed (small read) ∙ rw (← read.wide_word-word.ensures) (value-above _ _ c.before.before.if-word-plan.false)
   where
     signed : {n : ℕ} → n < 2 ^ 33 → to_z w64 n ≡ pos n
     signed h = to_z_pos w64 (omega arith)

@@ -7,23 +7,23 @@ use Rattle.ternary.proofs.Plans.{value-below, value-above, above-small}
 use Rattle.ternary_u64.proofs.ends.element.Statement.{statement}
 use Rattle.ternary_u64.proofs.ends.element.Tie as tie
 
-add-result : tie.Need-overflow-add-result
+add-result : tie.Need-overflow_add-result
 add-result c =
     let read = c.before.before.before.before in
     let start = read.before.before.before.before in
-    omega (arith, above-small start.args.plan read.wide_word.result (search rules))
+    omega (arith, above-small start.args.plan read.wide_word-word.result (search rules))
 
-returns : tie.Need-returns
+returns : tie.Need-returns-then-word-plan
 returns c =
     let read = c.before.before.before in
     let a = read.before.before.before.before.args in
-    c.minus_one.ensures ∙ rw (← read.wide_word.ensures) (ap (held_one a.encoding) (value-below a.plan _ c.before.if1.true))
+    c.minus_one.ensures ∙ rw (← read.wide_word-word.ensures) (ap (held_one a.encoding) (value-below a.plan _ c.before.if-word-plan.true))
 
-returns-2 : tie.Need-returns-2
+returns-2 : tie.Need-returns-else-word-plan
 returns-2 c =
     let read = c.before.before.before.before in
     let a = read.before.before.before.before.args in
-    rw (← read.wide_word.ensures) (ap (held_one a.encoding) (value-above a.plan _ c.before.before.if1.false))
+    rw (← read.wide_word-word.ensures) (ap (held_one a.encoding) (value-above a.plan _ c.before.before.if-word-plan.false))
 
 pub element_spec : {M : Type 1} → statement M
 element_spec =

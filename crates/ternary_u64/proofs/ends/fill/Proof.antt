@@ -10,44 +10,44 @@ use Rattle.ternary.specs.Sampler.{plan_value}
 use Rattle.ternary_u64.proofs.ends.fill.Statement.{statement}
 use Rattle.ternary_u64.proofs.ends.fill.Tie as tie
 
-abbrev invariant-loop : tie.invariant-loop
-invariant-loop output₀ encoding plan words place n end i₀ at₀ output i at =
+abbrev invariant-loop-i : tie.invariant-loop-i
+invariant-loop-i output₀ encoding plan words place n end i₀ at₀ output i at =
     (at ≡ place + 2 * i) × (i % 4 ≡ 0) × Stored (λ w. held_one encoding (plan_value plan w)) words place output₀ i output
 
-abbrev decreases-loop : tie.decreases-loop
-decreases-loop output₀ encoding plan words place n end i₀ at₀ output i at = n - i
+abbrev decreases-loop-i : tie.decreases-loop-i
+decreases-loop-i output₀ encoding plan words place n end i₀ at₀ output i at = n - i
 
-loop-holds : tie.Need-loop-init invariant-loop decreases-loop
+loop-holds : tie.Need-loop-i-init invariant-loop-i decreases-loop-i
 loop-holds c = (omega arith, omega arith, stored_none _ _ _ _)
 
-loop-again : tie.Need-loop-preserved invariant-loop decreases-loop
+loop-again : tie.Need-loop-i-preserved invariant-loop-i decreases-loop-i
 loop-again c =
-    let turn = c.before.before.before.before.before.loop in (
+    let turn = c.before.before.before.before.before.loop-i in (
       omega arith,
       omega arith,
-      stored_four _ _ _ _ turn.invariant.2 (omega arith) turn.invariant.0 c.before.before.before.element.ensures
-          c.before.before.element2.ensures c.before.element3.ensures c.element4.ensures,
+      stored_four _ _ _ _ turn.invariant.2 (omega arith) turn.invariant.0 c.before.before.before.element-first.ensures
+          c.before.before.element-second.ensures c.before.element-third.ensures c.element-fourth.ensures,
     )
 
-fill-rest-requires : tie.Need-fill-rest-requires invariant-loop decreases-loop
+fill-rest-requires : tie.Need-fill_rest-requires invariant-loop-i decreases-loop-i
 fill-rest-requires c κs =
     let at-loop = c.before.before in
-    left_enough _ _ _ _ at-loop.loop.invariant.2 at-loop.loop.invariant.0 at-loop.before.before.before.requires
+    left_enough _ _ _ _ at-loop.loop-i.invariant.2 at-loop.loop-i.invariant.0 at-loop.before.before.before.requires
 
-same_length : tie.Need-same-length invariant-loop decreases-loop
+same_length : tie.Need-shape_of-output invariant-loop-i decreases-loop-i
 same_length c =
     let at-loop = c.before.before.before.before.before in
-    c.before.output.given.1 ∙ at-loop.loop.invariant.2.same_length
+    c.before.output-1.given.1 ∙ at-loop.loop-i.invariant.2.same_length
 
-returns : tie.Need-returns invariant-loop decreases-loop
+returns : tie.Need-returns invariant-loop-i decreases-loop-i
 returns c =
     let at-loop = c.before.before.before.before.before in
-    stored-rest _ _ _ _ at-loop.loop.invariant.2 at-loop.loop.invariant.0 at-loop.before.before.before.requires c.before.before.fill-rest.ensures
+    stored-rest _ _ _ _ at-loop.loop-i.invariant.2 at-loop.loop-i.invariant.0 at-loop.before.before.before.requires c.before.before.fill_rest.ensures
 
 pub fill_spec : {M : Type 1} → statement M
 fill_spec =
     tie.close
-    (tie.spec invariant-loop decreases-loop (λ c. omega arith) loop-holds (λ c κs. omega arith) (λ c. omega arith) (λ c κs. omega arith) (λ c. omega arith)
+    (tie.spec invariant-loop-i decreases-loop-i (λ c. omega arith) loop-holds (λ c κs. omega arith) (λ c. omega arith) (λ c κs. omega arith) (λ c. omega arith)
     (λ c κs. omega arith) (λ c. omega arith) (λ c κs. omega arith) (λ c. omega arith) (λ c. omega arith) (λ c. omega arith) (λ c. omega arith)
     (λ c. simp length-set (omega arith)) (λ c. omega arith) (λ c. omega arith) (λ c. simp length-set (omega arith)) (λ c. omega arith) (λ c. omega arith)
     (λ c. simp length-set (omega arith)) (λ c. omega arith) (λ c. omega arith) (λ c. omega arith) loop-again (λ c. omega arith) (λ c. omega arith)

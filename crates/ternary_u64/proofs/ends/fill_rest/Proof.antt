@@ -8,30 +8,30 @@ use Rattle.ternary.specs.Sampler.{plan_value}
 use Rattle.ternary_u64.proofs.ends.fill_rest.Statement.{statement}
 use Rattle.ternary_u64.proofs.ends.fill_rest.Tie as tie
 
-abbrev invariant-loop : tie.invariant-loop
-invariant-loop output₀ encoding plan words place n i₀ at₀ output i at =
+abbrev invariant-loop-i : tie.invariant-loop-i
+invariant-loop-i output₀ encoding plan words place n i₀ at₀ output i at =
     (at ≡ place + 2 * i) × Stored (λ w. held_one encoding (plan_value plan w)) words place output₀ i output
 
-abbrev decreases-loop : tie.decreases-loop
-decreases-loop output₀ encoding plan words place n i₀ at₀ output i at = n - i
+abbrev decreases-loop-i : tie.decreases-loop-i
+decreases-loop-i output₀ encoding plan words place n i₀ at₀ output i at = n - i
 
-loop-holds : tie.Need-loop-init invariant-loop decreases-loop
+loop-holds : tie.Need-loop-i-init invariant-loop-i decreases-loop-i
 loop-holds c = (omega arith, stored_none _ _ _ _)
 
-loop-again : tie.Need-loop-preserved invariant-loop decreases-loop
+loop-again : tie.Need-loop-i-preserved invariant-loop-i decreases-loop-i
 loop-again c =
-    let turn = c.before.before.loop in (
+    let turn = c.before.before.loop-i in (
       omega arith,
       stored_more _ _ _ _ turn.invariant.1 (omega arith) turn.invariant.0 refl c.element.ensures,
     )
 
-returns : tie.Need-returns invariant-loop decreases-loop
+returns : tie.Need-returns invariant-loop-i decreases-loop-i
 returns c =
     let start = c.before.before.before.before in
-    stored-all _ _ _ _ c.before.loop.invariant.1 (omega arith) start.requires
+    stored-all _ _ _ _ c.before.loop-i.invariant.1 (omega arith) start.requires
 
 pub fill_rest_spec : {M : Type 1} → statement M
 fill_rest_spec =
     tie.close
-    (tie.spec invariant-loop decreases-loop loop-holds (λ c κs. omega arith) (λ c. omega arith) (λ c. omega arith) (λ c. omega arith) (λ c. omega arith)
-    (λ c. omega arith) loop-again (λ c. c.before.loop.invariant.1.same_length) returns)
+    (tie.spec invariant-loop-i decreases-loop-i loop-holds (λ c κs. omega arith) (λ c. omega arith) (λ c. omega arith) (λ c. omega arith) (λ c. omega arith)
+    (λ c. omega arith) loop-again (λ c. c.before.loop-i.invariant.1.same_length) returns)

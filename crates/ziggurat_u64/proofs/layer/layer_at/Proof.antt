@@ -7,7 +7,7 @@ use Rattle.ziggurat_u64.proofs.layer.layer_at.Tie as tie
 
 returns : tie.Need-returns
 unfolding round of_bits
-returns c = let test = c.before.before.before.before.before in search (layer_read, chord_start test.if1.branch (λ w. w.taken) (λ w. w.left))
+returns c = let test = c.before.before.before.before.before in search (layer_read, chord_start test.if-i-eq1.branch (λ w. w.true) (λ w. w.left))
 
 pub layer_at_spec : {M : Type 1} → statement M
 layer_at_spec =

@@ -5,4 +5,4 @@ use Rattle.primus_distr.proofs.binomial.CenteredBinomial.new.Statement.{statemen
 use Rattle.primus_distr.proofs.binomial.CenteredBinomial.new.Tie as tie
 
 pub new_spec : {M : Type 1} → statement M
-new_spec = tie.close (tie.spec (λ c κs. search rules) (λ c. rw c.before.new.ensures (binomial-made _)))
+new_spec = tie.close (tie.spec (λ c κs. search rules) (λ c. rw c.before.new-made.ensures (binomial-made _)))

@@ -5,4 +5,4 @@ use Rattle.primus_distr.proofs.gaussian.SignedDiscreteGaussian.new.Statement.{st
 use Rattle.primus_distr.proofs.gaussian.SignedDiscreteGaussian.new.Tie as tie
 
 pub new_spec : {M : Type 1} → statement M
-new_spec = tie.close (tie.spec (λ c κs. search rules) (λ c. rw c.before.new-parameters.ensures (gaussian_made _)))
+new_spec = tie.close (tie.spec (λ c κs. search rules) (λ c. rw c.before.new_parameters-made.ensures (gaussian_made _)))

@@ -9,4 +9,4 @@ pub sample_encoded_to_spec : {M : Type 1} → statement M
 sample_encoded_to_spec =
     tie.close
     (tie.spec (λ c κs. search rules) (λ c κs. search rules) (λ c. search rules)
-    (λ c. let view = c.before.before.before.before.as-error in rw view.ensures at c.before.before.sample-encoded-to.ensures))
+    (λ c. let view = c.before.before.before.before.as_error-sampler in rw view.ensures at c.before.before.sample_encoded_to.ensures))

@@ -10,4 +10,4 @@ sample_encoded_to_spec =
     tie.close
     (tie.spec (λ c κs. search rules) (λ c. search rules) (λ c. search rules) (λ c. search rules) (λ c. search rules) (λ c κs. search rules)
     (λ c. search rules)
-    (λ c. let view = c.before.before.before.before.before.before.before.before.as-key in rw view.ensures at c.before.before.sample-encoded-to.ensures))
+    (λ c. let view = c.before.before.before.before.before.before.before.before.as_key-sampler in rw view.ensures at c.before.before.sample_encoded_to.ensures))

@@ -10,4 +10,4 @@ sample_signed_to_spec =
     tie.close
     (tie.spec (λ c κs. search rules) (λ c. search rules) (λ c. search rules) (λ c. search rules) (λ c. search rules) (λ c κs. search rules)
     (λ c. search rules)
-    (λ c. let view = c.before.before.before.before.before.before.before.as-key in rw view.ensures at c.before.sample-signed-to.ensures))
+    (λ c. let view = c.before.before.before.before.before.before.before.as_key-sampler in rw view.ensures at c.before.sample_signed_to.ensures))

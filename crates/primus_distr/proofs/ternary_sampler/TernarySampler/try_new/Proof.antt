@@ -5,19 +5,19 @@ use Rattle.primus_distr.proofs.Making.{ternary-refused, ternary-made}
 use Rattle.primus_distr.proofs.ternary_sampler.TernarySampler.try_new.Statement.{statement}
 use Rattle.primus_distr.proofs.ternary_sampler.TernarySampler.try_new.Tie as tie
 
-returns : tie.Need-returns
+returns : tie.Need-returns-then-number-ne0
 unfolding of_bits round
 returns c =
     let a = c.before.before.args in
-    ternary-refused a.negative-one-probability a.one-probability c.before.check-ternary-probabilities.ensures c.if1.true
+    ternary-refused a.negative-one-probability a.one-probability c.before.check_ternary_probabilities-number.ensures c.if-number-ne0.true
 
-returns-2 : tie.Need-returns-2
+returns-2 : tie.Need-returns
 returns-2 c =
-    let if1 = c.before.before.before.before.before.if1 in
-    let threshold-of = c.before.before.before.before.threshold-of in
+    let if1 = c.before.before.before.before.before.if-number-ne0 in
+    let threshold-of = c.before.before.before.before.threshold_of-negative in
     let judged = c.before.before.before.before.before.before in
-    ternary-made _ _ judged.check-ternary-probabilities.ensures if1.false
-    threshold-of.ensures c.before.before.before.threshold-of2.ensures c.from-thresholds.ensures
+    ternary-made _ _ judged.check_ternary_probabilities-number.ensures if1.false
+    threshold-of.ensures c.before.before.before.threshold_of-positive.ensures c.from_thresholds-ends.ensures
 
 pub try_new_spec : {M : Type 1} → statement M
 try_new_spec =
