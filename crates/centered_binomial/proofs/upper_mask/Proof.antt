@@ -14,11 +14,11 @@ is-made-requires : tie.Need-is_made-requires
 is-made-requires c κs = search rules
 
 returns : tie.Need-returns-then-not-is_made
-returns c = rw (sym c.before.is_made.ensures ∙ not-true c.before.is_made.result c.if-not-is_made.true)
+returns c = rw (sym c.before.is_made.ensures ∙ c.if-not-is_made.true)
 
 -- past the test the parameters are those that making gives
 made : (c : tie.Else-not-is_made) → is_made_binomial c.before.before.args.parameters ≡ true
-made c = sym c.before.is_made.ensures ∙ not-false c.before.is_made.result c.if-not-is_made.false
+made c = sym c.before.is_made.ensures ∙ c.if-not-is_made.false
 
 cast-result : tie.Need-overflow_cast-result
 cast-result c = search rules

@@ -70,7 +70,7 @@ add-text-2 t c =
 slice-write-text-2 : (t : ℕ) → lts.Need-bounds-text-end (tenth.Asked, tenth.Learnt, below t, own.Post) (at-measure t) own.Post
 slice-write-text-2 t c =
     let called = c.before.before.before.write_digits-end in
-    omega (arith, ap (λ p. p.0) called.ensures, called.auto.1.1.0, room t c.before.before.before.before.before)
+    omega (arith, ap (λ p. p.0) called.ensures, called.auto.text, room t c.before.before.before.before.before)
 
 returns-2 : (t : ℕ) → lts.Need-returns (tenth.Asked, tenth.Learnt, below t, own.Post) (at-measure t) own.Post
 returns-2 t c =
@@ -86,5 +86,5 @@ pub +write_digits_spec : {M : Type 1} → statement M
     (λ t.
     lts.spec (tenth.Asked, tenth.Learnt, below t, own.Post) (at-measure t) own.Post (λ c. omega (arith, (alone t c).0))
     (λ c. omega (arith, (alone t c).0)) (slice-write-text t) (λ c. simp length-set) (returns t) (λ c κs. tt) (write-digits-requires t) (add-text-2 t)
-    (slice-write-text-2 t) (λ c. omega (arith, slice-write-text-2 t c, c.before.before.before.write_digits-end.auto.1.1.0))
-    (λ c. simp length-set c.before.before.before.write_digits-end.auto.1.1.0) (returns-2 t))
+    (slice-write-text-2 t) (λ c. omega (arith, slice-write-text-2 t c, c.before.before.before.write_digits-end.auto.text))
+    (λ c. simp length-set c.before.before.before.write_digits-end.auto.text) (returns-2 t))

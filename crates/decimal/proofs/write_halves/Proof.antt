@@ -14,8 +14,8 @@ write-digits-requires c κs = omega (arith, digits_fit c.before.ranges.high.fits
 returns : tie.Need-returns
 returns c =
     let called = c.write_digits in
-    let inside : called.result ≤ length called.new.1.1.0 =
-    omega (arith, ap (λ p. p.0) called.ensures, called.auto.1.1.0, write-digits-requires c.before called.lifetimes) in
+    let inside : called.result ≤ length called.new.text =
+    omega (arith, ap (λ p. p.0) called.ensures, called.auto.text, write-digits-requires c.before called.lifetimes) in
     (called.ensures, (inside, sym (length-take-le _ _ inside)))
 
 pub write_halves_spec : {M : Type 1} → statement M

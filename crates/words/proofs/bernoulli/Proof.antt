@@ -24,13 +24,13 @@ judged c t e =
     (chance-told (length a.words.now) a.threshold.below (drop a.place a.words.now) t (omega arith) (sym e ∙ c.next_u64.ensures))
 
 returns-2 : tie.Need-returns-then-value-below
-returns-2 c = let took = c.before.before.before.before in rw (lt-ltb _ _ c.if-value-below.true) at (judged took _ c.before.before.value-1.given.1)
+returns-2 c = rw (lt-ltb _ _ c.if-value-below.true) at (judged c.before.before _ c.in-Got.is)
 
 returns-3 : tie.Need-returns-else-value-below
-returns-3 c = let took = c.before.before.before.before in rw (le-ltb _ _ c.if-value-below.false) at (judged took _ c.before.before.value-1.given.1)
+returns-3 c = rw (le-ltb _ _ c.if-value-below.false) at (judged c.before.before _ c.in-Got.is)
 
 returns-4 : tie.Need-returns-in-Short
-returns-4 c = judged c.before.before _ c.enum_told-1.given.1
+returns-4 c = judged c.before _ c.in-Short.is
 
 pub bernoulli_spec : {M : Type 1} → statement M
 bernoulli_spec =

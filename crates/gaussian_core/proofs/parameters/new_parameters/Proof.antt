@@ -26,7 +26,7 @@ unfolding of_bits round
 returns-2 c =
     let d = c.before.before.before.before.args.standard_deviation in
     let good = accepted c.before.before in
-    let large = not-below-power 64 (product d) (product-positive d good) (not-true _ c.before.if-not-product.true) in
+    let large = not-below-power 64 (product d) (product-positive d good) c.before.if-not-product.true in
     c.refuse-then-not-product.ensures ∙ made_large d good (omega (arith, large))
 
 -- The product lies where it can be cut to a u64.
@@ -37,7 +37,7 @@ above c =
 
 below : (c : tie.Else-not-product) → T (lt (product c.before.before.before.args.standard_deviation) (power 64))
 unfolding of_bits round
-below c = is_so (lt (product c.before.before.before.args.standard_deviation) (power 64)) c.if-not-product.false
+below c = subst T (sym c.if-not-product.false) tt
 
 truncating-f64-to-u64-requires : tie.Need-truncating_f64_to_u64-requires
 unfolding of_bits round

@@ -24,17 +24,17 @@ good c =
     (passed.0, passed.1)
 
 returns-2 : tie.Need-returns-then-not-reads
-returns-2 c = c.succeeded.ensures ∙ answer-constant _ _ _ _ _ (none c.before.before) (not-true _ c.before.if-not-reads.true)
+returns-2 c = c.succeeded.ensures ∙ answer-constant _ _ _ _ _ (none c.before.before) c.before.if-not-reads.true
 
 returns-3 : tie.Need-returns-then-count-place
 returns-3 c =
     c.refused-then-count-place.ensures
-    ∙ answer-short _ _ _ _ _ (none c.before.before.before) (not-false _ c.before.before.if-not-reads.false) c.before.if-count-place.true
+    ∙ answer-short _ _ _ _ _ (none c.before.before.before) c.before.before.if-not-reads.false c.before.if-count-place.true
 
 returns-4 : tie.Need-returns
 returns-4 c =
     c.succeeded-2.ensures
-    ∙ answer_read _ _ _ _ _ (none c.before.before.before) (not-false _ c.before.before.if-not-reads.false) c.before.if-count-place.false
+    ∙ answer_read _ _ _ _ _ (none c.before.before.before) c.before.before.if-not-reads.false c.before.if-count-place.false
 
 pub answer_of_spec : {M : Type 1} → statement M
 answer_of_spec =

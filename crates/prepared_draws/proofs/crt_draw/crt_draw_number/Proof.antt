@@ -7,12 +7,12 @@ use Rattle.prepared_draws.proofs.crt_draw.crt_draw_number.Statement.{statement}
 use Rattle.prepared_draws.proofs.crt_draw.crt_draw_number.Tie as tie
 
 returns : tie.Need-returns-then-not-is_served
-returns c = tried_method _ _ _ _ _ _ (sym c.before.is_served.ensures ∙ not-true _ c.if-not-is_served.true)
+returns c = tried_method _ _ _ _ _ _ (sym c.before.is_served.ensures ∙ c.if-not-is_served.true)
 
 returns-2 : tie.Need-returns
 returns-2 c =
     let at = c.before.before in
-    tried_layout _ _ _ _ _ _ (sym at.before.is_served.ensures ∙ not-false _ at.if-not-is_served.false) _ _ c.before.maximum_magnitude-largest.ensures
+    tried_layout _ _ _ _ _ _ (sym at.before.is_served.ensures ∙ at.if-not-is_served.false) _ _ c.before.maximum_magnitude-largest.ensures
     c.crt_number.ensures
 
 pub crt_draw_number_spec : {M : Type 1} → statement M

@@ -18,7 +18,7 @@ decreases-loop-i token most none value₀ i₀ value i = length token - i
 
 -- past the first test the byte is a digit
 digit : (c : tie.Else-not-byte invariant-loop-i decreases-loop-i) → (48 ≤ c.before.wide-byte.result) × (c.before.wide-byte.result ≤ 57)
-digit c = digit-bounds c.before.wide-byte.result (not-false _ c.if-not-byte.false)
+digit c = digit-bounds c.before.wide-byte.result c.if-not-byte.false
 
 -- and makes the value of one byte more
 turned : (c : tie.Else-not-byte invariant-loop-i decreases-loop-i)
@@ -27,12 +27,12 @@ turned : (c : tie.Else-not-byte invariant-loop-i decreases-loop-i)
 turned c =
     let loop = c.before.before.before.before.loop-i in
     rw c.before.wide-byte.ensures
-    (judged_more _ loop.i loop.value (omega arith) (sym (ap is_digit c.before.wide-byte.ensures) ∙ not-false _ c.if-not-byte.false) loop.invariant.1)
+    (judged_more _ loop.i loop.value (omega arith) (sym (ap is_digit c.before.wide-byte.ensures) ∙ c.if-not-byte.false) loop.invariant.1)
 
 returns : tie.Need-returns-then-not-byte invariant-loop-i decreases-loop-i
 returns c =
     let loop = c.before.before.before.before.loop-i in
-    let other = sym (ap is_digit c.before.wide-byte.ensures) ∙ not-true _ c.if-not-byte.true in
+    let other = sym (ap is_digit c.before.wide-byte.ensures) ∙ c.if-not-byte.true in
     sym (judged-bad _ _ loop.i loop.value (omega arith) other loop.invariant.1)
 
 sub-digit : tie.Need-overflow_sub-digit invariant-loop-i decreases-loop-i

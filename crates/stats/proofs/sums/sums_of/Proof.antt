@@ -10,7 +10,7 @@ returns : tie.Need-returns
 unfolding residue_sums
 returns c =
     let start = c.before.before in
-    rw (c.above_half.ensures, c.before.type_size.ensures, upper-bits start.args.modulus start.requires.0 start.args.residue start.requires.1)
+    rw (c.above_half.ensures, c.before.size_of-size.ensures, upper-bits start.args.modulus start.requires.0 start.args.residue start.requires.1)
 
 pub sums_of_spec : {M : Type 1} → statement M
 sums_of_spec =

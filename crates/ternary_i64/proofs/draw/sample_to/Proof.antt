@@ -36,7 +36,7 @@ returns-3 c =
     let told = good.before.before.before.before in
     let a = told.before.before.before.args in (
       plan_constant (λ cs. cs) (λ x. x) (λ cs. sym (map_id cs)) a.words.now a.place a.output.now _ told.before.plan_of-plan.ensures
-          told.answer_of-answer.ensures good.if-answer-ne0.false (not-true told.before.plan_of-plan.result.reads constant.if-not-plan.true)
+          told.answer_of-answer.ensures good.if-answer-ne0.false constant.if-not-plan.true
           (c.before.fill.ensures ∙ ap (replicate (length a.output.now)) (to_z-of_z (sfits_of value.encoded.type_inv) ∙ value.encoded.ensures)),
       answer_reports _ _ _ _ _ told.answer_of-answer.ensures (sampler_skips _ _ _),
     )
@@ -48,7 +48,7 @@ fill-requires-2 c κs =
     let told = good.before.before.before.before in
     let a = told.before.before.before.args in
     plan_enough (λ cs. cs) (λ x. x) (λ cs. sym (map_id cs)) a.words.now a.place a.output.now a.ends told.before.plan_of-plan.ensures
-    told.answer_of-answer.ensures good.if-answer-ne0.false (not-false told.before.plan_of-plan.result.reads reading.if-not-plan.false)
+    told.answer_of-answer.ensures good.if-answer-ne0.false reading.if-not-plan.false
 
 returns-4 : tie.Need-returns
 returns-4 c =
@@ -58,7 +58,7 @@ returns-4 c =
     let start = told.before.before in
     let a = start.before.args in (
       plan_read (λ cs. cs) (λ x. x) (λ cs. sym (map_id cs)) a.words.now a.place a.output.now _ told.before.plan_of-plan.ensures
-          told.answer_of-answer.ensures good.if-answer-ne0.false (not-false told.before.plan_of-plan.result.reads reading.if-not-plan.false)
+          told.answer_of-answer.ensures good.if-answer-ne0.false reading.if-not-plan.false
           (λ i. (start.shared_slice_known-1.given i).fits) c.before.fill-2.ensures,
       answer_reports _ _ _ _ _ told.answer_of-answer.ensures (sampler_skips _ _ _),
     )
