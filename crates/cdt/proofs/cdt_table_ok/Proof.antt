@@ -10,7 +10,7 @@ use Rattle.cdt.proofs.cdt_table_ok.Tie as tie
 returns : tie.Need-returns-then-maximum_magnitude-gt18446744073709551613
 returns c =
     let a = c.before.before.args in
-    sym (rising-other (a.maximum-magnitude + 2) (2 ^ 64 - 1) a.bounds.now (λ e. omega arith))
+    sym (rising-other (a.maximum_magnitude + 2) (2 ^ 64 - 1) a.bounds.now (λ e. omega arith))
 
 add-rising-ok : tie.Need-overflow_add-maximum_magnitude
 add-rising-ok c = search rules

@@ -11,7 +11,7 @@ fill-requires : tie.Need-fill-requires
 fill-requires c κs =
     let told = c.before.before.before in
     let a = told.before.before.before.before.args in
-    cdt_ready (λ cs. cs) (λ x. x) (λ cs. sym (map_id cs)) a.maximum-magnitude a.bounds.now a.words.now a.place a.output.now
+    cdt_ready (λ cs. cs) (λ x. x) (λ cs. sym (map_id cs)) a.maximum_magnitude a.bounds.now a.words.now a.place a.output.now
     told.before.table_number-own.ensures
     told.answer_of-answer.ensures c.before.if-answer-eq0.true
 
@@ -20,7 +20,7 @@ returns c =
     let told = c.before.before.before.before.before in
     let start = told.before.before in
     let a = start.before.before.args in (
-      cdt_read (λ cs. cs) (λ x. x) (λ cs. sym (map_id cs)) a.maximum-magnitude a.bounds.now a.words.now a.place a.output.now
+      cdt_read (λ cs. cs) (λ x. x) (λ cs. sym (map_id cs)) a.maximum_magnitude a.bounds.now a.words.now a.place a.output.now
           told.before.table_number-own.ensures
           told.answer_of-answer.ensures c.before.before.before.if-answer-eq0.true (λ i. (start.shared_slice_known-2-1.given i).fits) c.before.fill.ensures,
       answer_reports _ _ _ _ _ told.answer_of-answer.ensures refl,
@@ -30,7 +30,7 @@ returns-2 : tie.Need-returns-then-answer-eq-OUT_OF_WORDS
 returns-2 c =
     let told = c.before.before.before.before.before.before.before in
     let a = told.before.before.before.before.args in (
-      cdt_cleared (λ cs. cs) (λ x. x) (λ cs. sym (map_id cs)) a.maximum-magnitude a.bounds.now a.words.now a.place a.output.now
+      cdt_cleared (λ cs. cs) (λ x. x) (λ cs. sym (map_id cs)) a.maximum_magnitude a.bounds.now a.words.now a.place a.output.now
           told.before.table_number-own.ensures
           told.answer_of-answer.ensures c.before.before.before.if-answer-eq-OUT_OF_WORDS.true c.before.clear.ensures,
       answer_reports _ _ _ _ _ told.answer_of-answer.ensures refl,
@@ -40,7 +40,7 @@ returns-3 : tie.Need-returns-else-answer-eq-OUT_OF_WORDS
 returns-3 c =
     let told = c.before.before.before.before in
     let a = told.before.before.before.before.args in (
-      cdt_refused (λ cs. cs) (λ x. x) (λ cs. sym (map_id cs)) a.maximum-magnitude a.bounds.now a.words.now a.place a.output.now
+      cdt_refused (λ cs. cs) (λ x. x) (λ cs. sym (map_id cs)) a.maximum_magnitude a.bounds.now a.words.now a.place a.output.now
           told.before.table_number-own.ensures
           told.answer_of-answer.ensures c.if-answer-eq-OUT_OF_WORDS.false c.before.before.if-answer-eq0.false refl,
       answer_reports _ _ _ _ _ told.answer_of-answer.ensures refl,

@@ -11,7 +11,7 @@ fill-requires : tie.Need-fill-requires
 fill-requires c κs =
     let told = c.before.before.before in
     let a = told.before.before.before.before.before.args in
-    cdt_ready (held a.encoding) (held_one a.encoding) (λ cs. refl) a.maximum-magnitude a.bounds.now a.words.now a.place
+    cdt_ready (held a.encoding) (held_one a.encoding) (λ cs. refl) a.maximum_magnitude a.bounds.now a.words.now a.place
     a.output.now told.before.table_number-own.ensures
     told.answer_of-answer.ensures c.before.if-answer-eq0.true
 
@@ -21,7 +21,7 @@ returns c =
     let told = c.before.before.before.before.before.before in
     let start = told.before.before in
     let a = start.before.before.before.args in (
-      cdt_read (held a.encoding) (held_one a.encoding) (λ cs. refl) a.maximum-magnitude a.bounds.now a.words.now a.place
+      cdt_read (held a.encoding) (held_one a.encoding) (λ cs. refl) a.maximum_magnitude a.bounds.now a.words.now a.place
           a.output.now told.before.table_number-own.ensures
           told.answer_of-answer.ensures if1.true (λ i. (start.shared_slice_known-2-1.given i).fits)
           c.before.before.fill.ensures,
@@ -33,7 +33,7 @@ returns-2 c =
     let if2 = c.before.before.before.before.if-answer-eq-OUT_OF_WORDS in
     let told = c.before.before.before.before.before.before.before.before in
     let a = told.before.before.before.before.before.args in (
-      cdt_cleared (held a.encoding) (held_one a.encoding) (λ cs. refl) a.maximum-magnitude a.bounds.now a.words.now a.place
+      cdt_cleared (held a.encoding) (held_one a.encoding) (λ cs. refl) a.maximum_magnitude a.bounds.now a.words.now a.place
           a.output.now told.before.table_number-own.ensures
           told.answer_of-answer.ensures if2.true c.before.before.clear.ensures,
       answer_reports _ _ _ _ _ told.answer_of-answer.ensures refl,
@@ -43,7 +43,7 @@ returns-3 : tie.Need-returns-else-answer-eq-OUT_OF_WORDS
 returns-3 c =
     let told = c.before.before.before.before in
     let a = told.before.before.before.before.before.args in (
-      cdt_refused (held a.encoding) (held_one a.encoding) (λ cs. refl) a.maximum-magnitude a.bounds.now a.words.now a.place
+      cdt_refused (held a.encoding) (held_one a.encoding) (λ cs. refl) a.maximum_magnitude a.bounds.now a.words.now a.place
           a.output.now told.before.table_number-own.ensures
           told.answer_of-answer.ensures c.if-answer-eq-OUT_OF_WORDS.false c.before.before.if-answer-eq0.false refl,
       answer_reports _ _ _ _ _ told.answer_of-answer.ensures refl,

@@ -30,7 +30,7 @@ returns c =
     let asked = c.before in
     let at = asked.before in
     let a = at.before.before.before.args in
-    let shaped : shape_number a.n a.coefficient-count (length a.moduli.now) ≡ 0 =
+    let shaped : shape_number a.n a.coefficient_count (length a.moduli.now) ≡ 0 =
     shape_good a.n _ _ (omega arith) (sym at.before.has_shape.ensures ∙ at.if-has_shape.true) in
     c.draw_number.ensures
     ∙ rw (asked.moduli_number-asked.ensures, shaped) (last-joined (past_end a.words a.place) (too_long a.n) _ ∙ nothing-between (past_end a.words a.place) _)

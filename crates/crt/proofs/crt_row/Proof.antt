@@ -8,8 +8,8 @@ use Rattle.crt.proofs.crt_row.Tie as tie
 inside : (c : tie.After-crt_row_range-row) → c.crt_row_range-row.result.end ≤ length c.before.before.args.output.now
 inside c = range_inside _ _ _ _ c.crt_row_range-row.ensures
 
-part-result-start : tie.Need-slice-bounds-result-start
-part-result-start c = let a = c.before.before.args in range_order (length a.output.now) a.coefficient-count a.moduli-count a.i c.crt_row_range-row.ensures
+part-result-start : tie.Need-slice_bounds-result-start
+part-result-start c = let a = c.before.before.args in range_order (length a.output.now) a.coefficient_count a.moduli_count a.i c.crt_row_range-row.ensures
 
 returns : tie.Need-returns
 returns c = part-row _ _ _ _ _ c.before.crt_row_range-row.ensures (record { contents = refl; block = refl; offset = omega arith })

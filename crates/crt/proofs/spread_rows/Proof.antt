@@ -13,28 +13,28 @@ abbrev decreases-loop-i : tie.decreases-loop-i
 decreases-loop-i output₀ count moduli n rows last at₀ i₀ output at i = rows - i
 
 returns : tie.Need-returns-then-rows-eq0 invariant-loop-i decreases-loop-i
-returns c = let a = c.before.before.before.args in spread_no_moduli (2 ^ 63) a.output.now a.coefficient-count a.moduli.now c.if-rows-eq0.true
+returns c = let a = c.before.before.before.args in spread_no_moduli (2 ^ 63) a.output.now a.coefficient_count a.moduli.now c.if-rows-eq0.true
 
 -- the shape, where the test held
 shaped : (c : tie.Then-has_shape invariant-loop-i decreases-loop-i) → let a = c.before.before.before.before.before.args in
-    length a.output.now ≡ a.coefficient-count * length a.moduli.now
+    length a.output.now ≡ a.coefficient_count * length a.moduli.now
 shaped c = eqb-true _ _ (sym c.before.has_shape.ensures ∙ c.if-has_shape.true)
 
 sub-last : tie.Need-overflow_sub-last invariant-loop-i decreases-loop-i
 sub-last c =
     let a = c.before.before.before.before.before.args in
-    omega (arith, row_inside (length a.output.now) a.coefficient-count (length a.moduli.now) 0 (shaped c) (omega arith))
+    omega (arith, row_inside (length a.output.now) a.coefficient_count (length a.moduli.now) 0 (shaped c) (omega arith))
 
 loop-holds : tie.Need-loop-i-init invariant-loop-i decreases-loop-i
 loop-holds c = (omega arith, refl, sym (zero-mul _), shaped c, spread_none _ _ _ _ _)
 
 -- the row of this turn lies within the output
 room : (c : tie.In-loop-i invariant-loop-i decreases-loop-i) → let a = c.before.before.before.before.before.before.before.args in
-    c.before.loop-i.at + a.coefficient-count ≤ length a.output.now
+    c.before.loop-i.at + a.coefficient_count ≤ length a.output.now
 room c =
     let a = c.before.before.before.before.before.before.before.args in
     let loop = c.before.loop-i in
-    rw loop.invariant.2 (row_inside (length a.output.now) a.coefficient-count (length a.moduli.now) loop.i loop.invariant.3 c.loop-i-test.true)
+    rw loop.invariant.2 (row_inside (length a.output.now) a.coefficient_count (length a.moduli.now) loop.i loop.invariant.3 c.loop-i-test.true)
 
 make-row-requires : tie.Need-make_row-requires invariant-loop-i decreases-loop-i
 make-row-requires c κs = omega (arith, room c.before.before)
@@ -49,7 +49,7 @@ loop-again c =
     let called = c.before.before in
     let loop = called.before.before.before.before.loop-i in (
       omega arith,
-      called.make_row.auto.0 ∙ loop.invariant.1,
+      called.make_row.auto.output ∙ loop.invariant.1,
       next_row _ loop.i loop.invariant.2,
       loop.invariant.3,
       spread_more _ _ _ _ _ loop.invariant.4 (omega arith) loop.invariant.1 loop.invariant.2 called.make_row.ensures,
@@ -64,7 +64,7 @@ returns-2 c = spread-all _ _ _ _ _ c.before.loop-i.invariant.4 c.loop-i-test.fal
 returns-3 : tie.Need-returns-else-has_shape invariant-loop-i decreases-loop-i
 returns-3 c =
     let a = c.before.before.before.before.before.args in
-    spread-other (2 ^ 63) a.output.now a.coefficient-count a.moduli.now (sym c.before.has_shape.ensures ∙ c.if-has_shape.false)
+    spread-other (2 ^ 63) a.output.now a.coefficient_count a.moduli.now (sym c.before.has_shape.ensures ∙ c.if-has_shape.false)
 
 pub spread_rows_spec : {M : Type 1} → statement M
 spread_rows_spec =

@@ -32,7 +32,7 @@ loop-holds : tie.Need-loop-start-init invariant-loop-start decreases-loop-start
 loop-holds c = let start = c.before.before in turn-start (λ cs. cs) _ _ _ _ _ start.requires.0.1 (omega arith)
 
 same_length : tie.Need-shape_of-output-then-lent-at invariant-loop-start decreases-loop-start
-same_length c = let cleared = c.before.before in cleared.clear.auto.0 ∙ cleared.before.before.before.before.loop-start.invariant.kept
+same_length c = let cleared = c.before.before in cleared.clear.auto.output ∙ cleared.before.before.before.before.loop-start.invariant.kept
 
 returns : tie.Need-returns-then-lent-at invariant-loop-start decreases-loop-start
 returns c =

@@ -38,7 +38,7 @@ loop-holds : tie.Need-loop-start-init invariant-loop-start decreases-loop-start
 loop-holds c encoding = let start = c.before.before.before in turn-start (held encoding) _ _ _ _ _ start.requires.0.1 (omega arith)
 
 same_length : tie.Need-shape_of-output-then-lent-at invariant-loop-start decreases-loop-start
-same_length c = let cleared = c.before.before.before in cleared.clear.auto.0 ∙ (cleared.before.before.before.before.loop-start.invariant any).kept
+same_length c = let cleared = c.before.before.before in cleared.clear.auto.output ∙ (cleared.before.before.before.before.loop-start.invariant any).kept
 
 returns : tie.Need-returns-then-lent-at invariant-loop-start decreases-loop-start
 returns c =

@@ -31,7 +31,7 @@ returns-2 c =
     let s = a.stored.now in
     let counted : c.before.before.if2.count ≡ cond (eqb a.number 0) (length a.output.now) 0 =
     ⊎_elim (λ w. rw (eq-eqb _ _ w.0.taken) w.1) (λ w. rw (ne_eqb _ _ w.0.left) w.1) c.before.before.if2.branch in
-    rw (c.is-expected.ensures, tail s) (some s a.number c.before.before.if2.count a.output.now (omega arith) counted)
+    rw (c.is_expected.ensures, tail s) (some s a.number c.before.before.if2.count a.output.now (omega arith) counted)
 
 pub agrees_spec : {M : Type 1} → statement M
 agrees_spec =

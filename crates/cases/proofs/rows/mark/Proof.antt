@@ -7,10 +7,10 @@ use Rattle.crt.proofs.RowPart.{range_inside}
 use Rattle.cases.proofs.rows.mark.Statement.{statement}
 use Rattle.cases.proofs.rows.mark.Tie as tie
 
-inside : (c : tie.Then1) → let a = c.before.before.before.args in c.before.crt-row-range.result.end ≤ length a.output.now
+inside : (c : tie.Then1) → let a = c.before.before.before.args in c.before.crt_row_range.result.end ≤ length a.output.now
 inside c =
     let a = c.before.before.before.args in
-    range_inside (length a.output.now) a.coefficient-count a.moduli-count a.i c.before.crt-row-range.ensures
+    range_inside (length a.output.now) a.coefficient_count a.moduli_count a.i c.before.crt_row_range.ensures
 
 pub mark_spec : {M : Type 1} → statement M
 mark_spec =

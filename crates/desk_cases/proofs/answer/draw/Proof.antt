@@ -6,8 +6,8 @@ use Rattle.desk_cases.proofs.answer.draw.Tie as tie
 returns : tie.Need-returns
 returns c =
     let called = c.before.before.before.before.before.before.before in
-    let field = c.before.before.write-field.ensures in
-    (rw (field.0, ← called.desk-draw.ensures), field.1)
+    let field = c.before.before.write_field.ensures in
+    (rw (field.0, ← called.desk_draw.ensures), field.1)
 
 pub draw_spec : {M : Type 1} → statement M
 draw_spec = tie.close (tie.spec (λ c κs. search rules) (λ c κs. search rules) (λ c. search rules) (λ c. search rules) returns)

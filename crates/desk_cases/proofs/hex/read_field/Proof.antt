@@ -43,7 +43,7 @@ returns-4 c =
     let test = digits.before.before in
     let a = test.before.before.before.before.args in
     read_all a.text.now a.room.now test.before.if1.false test.if2.false _ _
-    (sym digits.before.all_digits.ensures ∙ not-false _ digits.if3.false) c.before.before.read-digits.ensures
+    (sym digits.before.all_digits.ensures ∙ not-false _ digits.if3.false) c.before.before.read_digits.ensures
 
 pub read_field_spec : {M : Type 1} → statement M
 read_field_spec =

@@ -40,7 +40,7 @@ loop-again c =
     let start = loop.before.before.before in
     let a = start.args in (
       omega arith,
-      rw (loop.loop.invariant.1, c.before.digit-of.ensures, c.digit-of2.ensures)
+      rw (loop.loop.invariant.1, c.before.digit_of.ensures, c.digit-of2.ensures)
           (pair_more a.values.now a.text.now loop.loop.i start.requires (omega arith)),
     )
 

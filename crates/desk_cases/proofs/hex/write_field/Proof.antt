@@ -16,7 +16,7 @@ write-digits-requires : tie.Need-write-digits-requires
 write-digits-requires c κs = length-take-le _ _ (omega arith)
 
 returns-2 : tie.Need-returns-2
-returns-2 c = some_bytes _ _ _ c.before.before.before.before.if1.false c.before.before.write-digits.ensures
+returns-2 c = some_bytes _ _ _ c.before.before.before.before.if1.false c.before.before.write_digits.ensures
 
 pub write_field_spec : {M : Type 1} → statement M
 write_field_spec =

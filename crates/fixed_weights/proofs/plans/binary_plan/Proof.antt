@@ -11,7 +11,7 @@ weight-number-requires : tie.Need-weight_number-number-requires
 weight-number-requires c κs = search rules
 
 -- with no second weight the first is the sum
-numbered : (c : tie.After-weight_number-number) → let a = c.before.args in c.weight_number-number.result ≡ weight_number a.word_count a.place a.n a.hamming-weight
+numbered : (c : tie.After-weight_number-number) → let a = c.before.args in c.weight_number-number.result ≡ weight_number a.word_count a.place a.n a.hamming_weight
 numbered c = rw (add-zero c.before.args.hamming_weight) at c.weight_number-number.ensures
 
 returns : tie.Need-returns-then-number-ne0

@@ -18,13 +18,13 @@ only-first-requires-2 c κs = search rules
 returns : tie.Need-returns-then-hamming_weight-zeros
 returns c =
     let a = c.before.before.args in
-    let fewer : a.hamming-weight ≤ a.n - a.hamming-weight = omega arith in
+    let fewer : a.hamming_weight ≤ a.n - a.hamming_weight = omega arith in
     rw (le-leb _ _ fewer) c.only_first.ensures
 
 returns-2 : tie.Need-returns-else-hamming_weight-zeros
 returns-2 c =
     let a = c.before.before.args in
-    let more : a.n - a.hamming-weight < a.hamming-weight = omega arith in
+    let more : a.n - a.hamming_weight < a.hamming_weight = omega arith in
     rw (lt-leb _ _ more) c.only_first-else-hamming_weight-zeros.ensures
 
 pub rarer_inserted_spec : {M : Type 1} → statement M

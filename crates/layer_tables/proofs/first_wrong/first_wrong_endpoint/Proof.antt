@@ -19,7 +19,7 @@ returns c =
     let a = at-loop.before.args in
     let l = at-loop.loop-i in
     searched_found _ _ l.i _ c.if-not-starts-rises.true
-    (entry (endpoints_asked a.maximum-magnitude) 0 0 a.endpoints.now l.before l.i l.invariant.0 (omega arith)) (omega arith) l.invariant.1
+    (entry (endpoints_asked a.maximum_magnitude) 0 0 a.endpoints.now l.before l.i l.invariant.0 (omega arith)) (omega arith) l.invariant.1
 
 loop-again : tie.Need-loop-i-preserved invariant-loop-i decreases-loop-i
 loop-again c =
@@ -28,7 +28,7 @@ loop-again c =
     let l = at-loop.loop-i in (
       omega arith,
       searched_more _ _ l.i _ c.if-not-starts-rises.false
-          (entry (endpoints_asked a.maximum-magnitude) 0 0 a.endpoints.now l.before l.i l.invariant.0 (omega arith)) (omega arith) l.invariant.1,
+          (entry (endpoints_asked a.maximum_magnitude) 0 0 a.endpoints.now l.before l.i l.invariant.0 (omega arith)) (omega arith) l.invariant.1,
     )
 
 returns-2 : tie.Need-returns invariant-loop-i decreases-loop-i

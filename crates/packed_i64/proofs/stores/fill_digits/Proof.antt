@@ -41,7 +41,7 @@ loop-again c =
     filled_more _ _ _ _ _ _ _ (room_more _ _ _ _ _ _ _ inv turn.loop-next-test.true) (within turn) inv c.before.store_digits.ensures
 
 same_length : tie.Need-shape_of-output-then-at-n invariant-loop-next decreases-loop-next
-same_length c = let l = c.before.before.before.before.before.before.before.before.before.before in c.before.store_front.auto.0 ∙ l.loop-next.invariant.sized
+same_length c = let l = c.before.before.before.before.before.before.before.before.before.before in c.before.store_front.auto.output ∙ l.loop-next.invariant.sized
 
 returns : tie.Need-returns-then-at-n invariant-loop-next decreases-loop-next
 returns c =

@@ -33,7 +33,7 @@ loop-again : tie.Need-loop-at-preserved invariant-loop-at decreases-loop-at
 loop-again c =
     let test = c.before.before.before.before.before in
     let called = c.before.store_word-at in
-    trit_whole _ _ _ _ _ _ _ (omega arith) (omega arith) called.auto.0 test.before.loop-at.invariant called.ensures
+    trit_whole _ _ _ _ _ _ _ (omega arith) (omega arith) called.auto.output test.before.loop-at.invariant called.ensures
 
 same-length-2 : tie.Need-shape_of-output invariant-loop-at decreases-loop-at
 same-length-2 c = c.before.loop-at.invariant.sized

@@ -91,7 +91,7 @@ returns-4 c =
     let a = judged.before.before.before.args in (
       rw c.refused-2.ensures
           (trits_lacking (λ cs. cs) (λ (v : ℤ). v) (λ cs. sym (map_id cs)) a.words.now a.place a.output.now judged.before.draw_number-number.ensures judged.if-number-ne0.false
-          _ (rw tested.if-ended.false at called.fill_trits-ended.ensures.0.1) (rw called.fill_trits-ended.auto.0 at c.before.before.clear.ensures)),
+          _ (rw tested.if-ended.false at called.fill_trits-ended.ensures.0.1) (rw called.fill_trits-ended.auto.output at c.before.before.clear.ensures)),
       reports_refused _ (λ z. omega arith) c.refused-2.ensures,
     )
 

@@ -26,7 +26,7 @@ store-pair-requires-2 c κs =
     let stored = c.before.before.before in
     let found = stored.before.before in
     let start = found.before.before.before in
-    (omega (arith, stored.store_pair.auto.0), omega (arith, (within found).second, start.requires.2.paired.sized))
+    (omega (arith, stored.store_pair.auto.output), omega (arith, (within found).second, start.requires.2.paired.sized))
 
 -- where the last trit stands, too
 last_within : (c : tie.After-slice_known-3-1) → let found = c.before.before.before.before.before.before.before.before in
@@ -39,7 +39,7 @@ same_length : tie.Need-shape_of-output
 same_length c =
     let second = c.before.before.before in
     let first = second.before.before.before.before in
-    simp length-set (second.store_pair-2.auto.0 ∙ first.store_pair.auto.0)
+    simp length-set (second.store_pair-2.auto.output ∙ first.store_pair.auto.output)
 
 returns : tie.Need-returns
 returns c =

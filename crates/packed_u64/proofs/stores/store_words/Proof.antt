@@ -33,7 +33,7 @@ loop-again c =
     let after = c.before.before in
     let called = after.store_word-at in
     let at-loop = after.before.before.before.before.before in
-    trit_whole _ _ _ _ _ _ _ (omega arith) (omega arith) called.auto.0 at-loop.loop-at.invariant called.ensures
+    trit_whole _ _ _ _ _ _ _ (omega arith) (omega arith) called.auto.output at-loop.loop-at.invariant called.ensures
 
 same-length-2 : tie.Need-shape_of-output invariant-loop-at decreases-loop-at
 same-length-2 c = c.before.loop-at.invariant.sized

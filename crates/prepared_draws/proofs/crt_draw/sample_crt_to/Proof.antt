@@ -35,7 +35,7 @@ returns-3 c =
           (method-drawn _ _ _ _ _ _ _ number tried.if-number-ne0.false drawn.draw_row-answer.result _ row.last_row-last.ensures drawn.draw_row-answer.ensures.0
           _ finished.finish.ensures.0),
       rw finished.finish.ensures.1
-          (crt_reports _ _ a.coefficient-count a.moduli.now a.words.now a.place a.output.now number tried.if-number-ne0.false
+          (crt_reports _ _ a.coefficient_count a.moduli.now a.words.now a.place a.output.now number tried.if-number-ne0.false
           row.last_row-last.ensures _ drawn.draw_row-answer.ensures.1),
     )
 

@@ -45,7 +45,7 @@ unfolding answer_line
 returns-2 c =
     let a = c.before.before.before.before.args in
     rw (eq-eqb a.index 0 c.before.if1.false)
-    (sym (short a.stored.now _ a.number a.place a.skipped-words a.skipped-bytes c.if2.true))
+    (sym (short a.stored.now _ a.number a.place a.skipped_words a.skipped_bytes c.if2.true))
 
 returns-3 : tie.Need-returns-3
 unfolding answer_line
@@ -54,7 +54,7 @@ returns-3 c =
     let a = tested.before.before.before.before.args in
     let s = a.stored.now in
     rw (eq-eqb a.index 0 tested.before.if1.false, ne_eqb a.number 0 c.if3.true, tail s, none (drop 4 s))
-    (joined s [] a.number a.place a.skipped-words a.skipped-bytes tested.if2.false)
+    (joined s [] a.number a.place a.skipped_words a.skipped_bytes tested.if2.false)
 
 returns-4 : tie.Need-returns-4
 unfolding answer_line
@@ -62,8 +62,8 @@ returns-4 c =
     let tested = c.before.before.before.before.before.before.before in
     let a = tested.before.before.before.before.args in
     let s = a.stored.now in
-    rw (eq-eqb a.index 0 tested.before.if1.false, eq-eqb a.number 0 c.before.if3.false, c.is-shown.ensures, tail s)
-    (joined s (shown a.offset a.output.now) a.number a.place a.skipped-words a.skipped-bytes tested.if2.false)
+    rw (eq-eqb a.index 0 tested.before.if1.false, eq-eqb a.number 0 c.before.if3.false, c.is_shown.ensures, tail s)
+    (joined s (shown a.offset a.output.now) a.number a.place a.skipped_words a.skipped_bytes tested.if2.false)
 
 pub agrees_spec : {M : Type 1} → statement M
 agrees_spec =

@@ -20,7 +20,7 @@ loop-again c =
     let turn = c.before.before.before.loop in
     let h = c.before.before.loop-test.true in (
       omega arith,
-      rw (add-one turn.i, c.digest-with.ensures)
+      rw (add-one turn.i, c.digest_with.ensures)
           (ap (digest_of a.offset turn.digest) (sym (drop-cons a.output.now turn.i 0 h)) ∙ turn.invariant.1),
     )
 

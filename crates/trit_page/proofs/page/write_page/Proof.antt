@@ -29,7 +29,7 @@ loop-again c =
     let call = c.before.before in
     let loop = call.before.before.before.loop in
     let page = call.before.before.before.before.before.args.page.now in
-    (omega arith, rw loop.invariant.1 (printed_more loop.byte page call.write-line.new.0 call.write-line.ensures))
+    (omega arith, rw loop.invariant.1 (printed_more loop.byte page call.write_line.new.0 call.write_line.ensures))
 
 returns : tie.Need-returns invariant-loop decreases-loop
 returns c =

@@ -9,7 +9,7 @@ returns : tie.Need-returns-then-number-ne0
 unfolding of_bits round
 returns c =
     let a = c.before.before.args in
-    ternary-refused a.negative-one-probability a.one-probability c.before.check_ternary_probabilities-number.ensures c.if-number-ne0.true
+    ternary-refused a.negative_one_probability a.one_probability c.before.check_ternary_probabilities-number.ensures c.if-number-ne0.true
 
 returns-2 : tie.Need-returns
 returns-2 c =
