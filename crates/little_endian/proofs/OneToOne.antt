@@ -83,6 +83,8 @@ bits-all_back zero [] t = refl
 bits-all_back (suc m) (x ∷ xs) t =
     let rest = in_box (replicate m (2 ^ 64)) xs in
     ap₂ ◌∷◌ (bits_back x (ltb→lt x (2 ^ 64) (and_l (ltb x (2 ^ 64)) rest t))) (bits-all_back m xs (and_r (ltb x (2 ^ 64)) rest t))
+bits-all_back zero (x ∷ xs) t = elim t [ ]
+bits-all_back (suc m) [] t = elim t [ ]
 
 -- ---- both laws
 

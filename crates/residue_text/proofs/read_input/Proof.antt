@@ -9,38 +9,30 @@ use Rattle.residue_text.proofs.read_input.Statement.{statement}
 use Rattle.residue_text.proofs.read_input.Tie as tie
 
 slice-aggregate-read-modulus : tie.Need-slice_bounds-read_modulus-end
-slice-aggregate-read-modulus c = sym (length-take-le _ _ c.before.first_line-line.ensures.inside)
+slice-aggregate-read-modulus c = sym (length-take-le _ _ c.first_line-line.ensures.inside)
 
 returns : tie.Need-returns-then-modulus-eq0
 returns c =
-    let read = c.before.before in
-    let line = read.before.before in
-    let a = line.before.before.before.before.args in
+    let a = c.args in
     bad_handed c.bad.result a.limits.now a.residues.now c.bad.ensures
-    (input_none a.text.now a.limits.now a.residues.now _ line.first_line-line.ensures.line _ _ read.read_modulus-first.ensures.0
-    read.read_modulus-first.ensures.1 c.before.if-modulus-eq0.true)
+    (input_none a.text.now a.limits.now a.residues.now _ c.first_line-line.ensures.line _ _ c.read_modulus-first.ensures.0
+    c.read_modulus-first.ensures.1 c.if-modulus-eq0.true)
 
 returns-2 : tie.Need-returns-then-first
 returns-2 c =
-    let read = c.before.before.before in
-    let line = read.before.before in
-    let a = line.before.before.before.before.args in
+    let a = c.args in
     bad_handed c.bad-then-first.result a.limits.now a.residues.now c.bad-then-first.ensures
-    (input-some a.text.now a.limits.now a.residues.now _ line.first_line-line.ensures.line _ _ read.read_modulus-first.ensures.0
-    read.read_modulus-first.ensures.1 c.before.before.if-modulus-eq0.false true c.before.if-first.true)
+    (input-some a.text.now a.limits.now a.residues.now _ c.first_line-line.ensures.line _ _ c.read_modulus-first.ensures.0
+    c.read_modulus-first.ensures.1 c.if-modulus-eq0.false true c.if-first.true)
 
 returns-3 : tie.Need-returns
 returns-3 c =
-    let rest = c.before.before.before.before in
-    let test = rest.before.before.before.before in
-    let read = test.before.before in
-    let line = read.before.before in
-    let a = line.before.before.before.before.args in (
-      rest.read_rest.ensures.0
-          ∙ rw (lined_after line.first_line-line.ensures)
-          (input-some a.text.now a.limits.now a.residues.now _ line.first_line-line.ensures.line _ _ read.read_modulus-first.ensures.0
-          read.read_modulus-first.ensures.1 test.before.if-modulus-eq0.false false test.if-first.false),
-      rest.read_rest.ensures.1,
+    let a = c.args in (
+      c.read_rest.ensures.0
+          ∙ rw (lined_after c.first_line-line.ensures)
+          (input-some a.text.now a.limits.now a.residues.now _ c.first_line-line.ensures.line _ _ c.read_modulus-first.ensures.0
+          c.read_modulus-first.ensures.1 c.if-modulus-eq0.false false c.if-first.false),
+      c.read_rest.ensures.1,
     )
 
 pub read_input_spec : {M : Type 1} → statement M

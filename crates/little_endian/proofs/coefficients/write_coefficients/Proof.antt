@@ -64,7 +64,7 @@ loop-again c =
     let fits : SFits w64 (get_or cs loop.i (pos 0)) = record { sfits = call.before.before.pattern-arg-1.given } in
     let bits = rw (to_z-of_z fits) at call.before.pattern.ensures in (
       omega arith,
-      rw loop.invariant.1 (turn_more cs loop.i test.loop-i-test.true a.bytes.now call.write_u64.new.0
+      rw loop.invariant.1 (turn_more cs loop.i test.loop-i-test.true a.bytes.now call.write_u64.new.bytes
           (call.write_u64.ensures ∙ ap (digits 256 8) bits)),
     )
 

@@ -50,7 +50,7 @@ returns-2 c =
     let loop = at-loop.loop-at in
     let a = at-loop.before.before.before.before.args in
     held-bad a.most a.text.now a.numbers.now loop.count loop.at _ loop.numbers _ (omega arith) (loop.invariant.1 (omega arith))
-    read.before.before.scan-end.ensures.0 read.read_number-read.ensures loop.invariant.2 c.if-not-read.true
+    read.before.before.scan-end.ensures.0 read.read_number-read.ensures loop.invariant.2 (not-true _ c.if-not-read.true)
 
 loop-less : tie.Need-loop-at-smaller invariant-loop-at decreases-loop-at
 loop-less c =
@@ -71,7 +71,7 @@ loop-again c =
       space_passed a.text.now end c.scan-at-in-loop-at.result found,
       held_skip a.most a.text.now a.numbers.now _ end _ _ found
           (held_more a.most a.text.now a.numbers.now loop.count loop.at _ loop.numbers _ (omega arith) (loop.invariant.1 (omega arith))
-          read.before.before.scan-end.ensures.0 read.read_number-read.ensures loop.invariant.2 (omega arith) c.before.if-not-read.false),
+          read.before.before.scan-end.ensures.0 read.read_number-read.ensures loop.invariant.2 (omega arith) (not-false _ c.before.if-not-read.false)),
     )
 
 same-length-3 : tie.Need-shape_of-numbers invariant-loop-at decreases-loop-at
