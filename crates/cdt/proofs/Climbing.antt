@@ -213,7 +213,7 @@ module _ (bounds : List ℕ) (top : ℕ) (t : T (cumulative_table top bounds)) w
         → r ≡ cond (ltb s.magnitude (2 ^ 63)) (with_sign s.positive s.magnitude) (pos 0) → to_z w64 (of_z w64 r) ≡ cumulative_value top bounds w
     sampled-signed fits room q =
         let below : s.magnitude < 2 ^ 63 = rw reached (omega (arith, magnitude_top w, table-length)) in
-        to_z-of_z (sfits_of fits) ∙ (rw (lt-ltb s.magnitude (2 ^ 63) below) at q) ∙ value
+        to_z-of_z {w = w64} (sfits_of fits) ∙ (rw (lt-ltb s.magnitude (2 ^ 63) below) at q) ∙ value
 
     pub sampled_encoded : (one : ℕ) {r : ℕ} → r ≡ encode_with one (with_sign s.positive s.magnitude) → r ≡ encode_with one (cumulative_value top bounds w)
     sampled_encoded one q = q ∙ ap (encode_with one) value

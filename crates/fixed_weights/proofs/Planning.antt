@@ -52,8 +52,8 @@ holds-signed {minus} e = record {
 }
 
 -- −1 as the caller holds it: residues
-pub holds_residue : {one minus : ℕ} → minus ≡ encode_with one minus_one → Holds 0 (map (encode_with one)) (minus ∷ 1 ∷ 0 ∷ [])
-holds_residue {one} {minus} e = record { val = encode_with one; writes = λ cs. refl; zeros = refl; tabled = by_codes (encode_with one) minus 1 0 e refl refl }
+pub holds_residue : (one : ℕ) {minus : ℕ} → minus ≡ encode_with one minus_one → Holds 0 (map (encode_with one)) (minus ∷ 1 ∷ 0 ∷ [])
+holds_residue one e = record { val = encode_with one; writes = λ cs. refl; zeros = refl; tabled = by_codes (encode_with one) _ 1 0 e refl refl }
 
 -- how many values a plan inserts as a rule
 values-planned : (p : Plan) → length (replicate p.firsts (code_value p.first) ++ replicate p.seconds (code_value p.second)) ≡ planned p

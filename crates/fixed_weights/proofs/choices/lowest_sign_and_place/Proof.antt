@@ -19,15 +19,13 @@ enum_told c = search rules
 
 returns : tie.Need-returns-in-Got
 returns c =
-    let drawn = c.before.before.before in
-    let a = drawn.before.before.args in
-    lowest_got a.words.now a.place a.word a.left a.k (sym c.before.value-1.given.1 ∙ drawn.uniform_below.ensures)
+    let a = c.args in
+    lowest_got a.words.now a.place a.word a.left a.k (sym c.in-Got.is ∙ c.uniform_below.ensures)
 
 returns-2 : tie.Need-returns-in-Short
 returns-2 c =
-    let drawn = c.before.before in
-    let a = drawn.before.before.args in
-    lowest_short a.words.now a.place a.word a.left a.k (sym c.enum_told-1.given.1 ∙ drawn.uniform_below.ensures)
+    let a = c.args in
+    lowest_short a.words.now a.place a.word a.left a.k (sym c.in-Short.is ∙ c.uniform_below.ensures)
 
 pub lowest_sign_and_place_spec : {M : Type 1} → statement M
 lowest_sign_and_place_spec = tie.close (tie.spec sub-fewer uniform-below-requires enum-known-value enum_told returns returns-2)

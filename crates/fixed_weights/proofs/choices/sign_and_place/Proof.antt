@@ -12,17 +12,14 @@ lowest-sign-and-place-requires-2 c κs = pos_of_ne-zero c.if-left-eq0.false
 
 returns : tie.Need-returns-in-Got
 returns c =
-    let told = c.before.before in
-    let read = told.before.before in
-    let a = read.before.before.before.args in
-    refilled a.words.now a.place a.word a.k read.before.if-left-eq0.true
-    (sym told.value-1.given.1 ∙ read.next_u32.ensures) c.lowest_sign_and_place.ensures
+    let a = c.args in
+    refilled a.words.now a.place a.word a.k c.if-left-eq0.true
+    (sym c.in-Got.is ∙ c.next_u32.ensures) c.lowest_sign_and_place.ensures
 
 returns-2 : tie.Need-returns-in-Short
 returns-2 c =
-    let read = c.before.before in
-    let a = read.before.before.before.args in
-    refilled_short a.words.now a.place a.word a.k read.before.if-left-eq0.true (sym c.enum_told-1.given.1 ∙ read.next_u32.ensures)
+    let a = c.args in
+    refilled_short a.words.now a.place a.word a.k c.if-left-eq0.true (sym c.in-Short.is ∙ c.next_u32.ensures)
 
 returns-3 : tie.Need-returns-else-left-eq0
 returns-3 c =

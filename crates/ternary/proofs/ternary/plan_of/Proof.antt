@@ -6,15 +6,15 @@ use Rattle.ternary.proofs.ternary.plan_of.Tie as tie
 
 returns : tie.Need-returns-in-Constant
 unfolding plan_of
-returns c = rw c.before.ends-1.given.1
+returns c = rw c.in-Constant.is
 
 returns-2 : tie.Need-returns-in-Nonzero
 unfolding plan_of
-returns-2 c = rw c.before.ends-in-Nonzero-1.given.1
+returns-2 c = rw c.in-Nonzero.is
 
 returns-3 : tie.Need-returns-in-General
 unfolding plan_of
-returns-3 c = rw c.before.ends-in-General-1.given.1
+returns-3 c = rw c.in-General.is
 
 pub plan_of_spec : {M : Type 1} → statement M
 plan_of_spec =
