@@ -6,15 +6,15 @@ use Rattle.any_sampler.proofs.AnyDistr.prepare.Tie as tie
 
 returns : tie.Need-returns-in-Secret
 unfolding preparing_any
-returns c = rw c.before.before.self-1.given.1 c.make_secret.ensures
+returns c = rw c.in-Secret.is c.make_secret.ensures
 
 returns-2 : tie.Need-returns-in-Error
 unfolding preparing_any
-returns-2 c = rw c.before.before.self-in-Error-1.given.1 c.make_error.ensures
+returns-2 c = rw c.in-Error.is c.make_error.ensures
 
 returns-3 : tie.Need-returns-in-Unknown
 unfolding preparing_any
-returns-3 c = rw c.before.enum_told-1.given.1 c.judged.ensures
+returns-3 c = rw c.in-Unknown.is c.judged.ensures
 
 pub prepare_spec : {M : Type 1} → statement M
 prepare_spec =

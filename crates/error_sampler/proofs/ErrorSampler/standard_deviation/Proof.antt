@@ -4,7 +4,7 @@ use Rattle.error_sampler.proofs.ErrorSampler.standard_deviation.Statement.{state
 use Rattle.error_sampler.proofs.ErrorSampler.standard_deviation.Tie as tie
 
 returns-2 : tie.Need-returns-in-CenteredBinomial
-returns-2 c = rw c.before.before.distribution-in-CenteredBinomial-1.given.1 c.standard_deviation.ensures.0
+returns-2 c = rw c.in-CenteredBinomial.is c.standard_deviation.ensures.0
 
 pub standard_deviation_spec : {M : Type 1} → statement M
 standard_deviation_spec =

@@ -10,8 +10,8 @@ ternary_key_spec =
     tie.close
     (tie.spec (λ c. search rules) (λ c. search rules) (λ c κs. search rules) (λ c. search rules) (λ c κs. search rules) (λ c. search rules)
     (λ c κs. search rules) (λ c. search rules) (λ c κs. search rules) (λ c. search rules) (λ c κs. search rules)
-    (λ c. let told = c.before.before.before.before in rw (told.sampler-1.given.1, c.before.enum_told-1.given.1, c.plain.ensures))
-    (λ c. let told = c.before.before.before.before in rw (told.sampler-1.given.1, c.before.enum_told-in-Zero-1.given.1, c.plain-in-Zero.ensures))
-    (λ c. let told = c.before.before.before.before in rw (told.sampler-1.given.1, c.before.enum_told-in-One-1.given.1, c.plain-in-One.ensures))
-    (λ c. c.plain-in-Nonzero.ensures ∙ ap ternary_key (sym c.before.before.sampler-in-Nonzero-1.given.1))
-    (λ c. c.plain-in-General.ensures ∙ ap ternary_key (sym c.before.before.sampler-in-General-1.given.1)))
+    (λ c. rw (c.in-Constant.is, c.in-MinusOne.is, c.plain.ensures))
+    (λ c. rw (c.in-Constant.is, c.in-Zero.is, c.plain-in-Zero.ensures))
+    (λ c. rw (c.in-Constant.is, c.in-One.is, c.plain-in-One.ensures))
+    (λ c. c.plain-in-Nonzero.ensures ∙ ap ternary_key (sym c.in-Nonzero.is))
+    (λ c. c.plain-in-General.ensures ∙ ap ternary_key (sym c.in-General.is)))
