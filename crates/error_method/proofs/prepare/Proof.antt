@@ -7,13 +7,11 @@ use Rattle.error_method.proofs.prepare.Tie as tie
 
 returns : tie.Need-returns-in-Gaussian
 returns c =
-    let d = c.before.before.before.before.distribution-1.given in
-    rw d.1 (c.judged.ensures ∙ rw c.before.before.new_parameters-made.ensures (prepares_gaussian d.0.0))
+    rw c.in-Gaussian.is (c.judged.ensures ∙ rw c.new_parameters-made.ensures (prepares_gaussian _))
 
 returns-2 : tie.Need-returns-in-CenteredBinomial
 returns-2 c =
-    let d = c.before.before.before.before.distribution-in-CenteredBinomial-1.given in
-    rw d.1 (c.judged-in-CenteredBinomial.ensures ∙ rw c.before.before.new-made.ensures (prepares_binomial d.0.0))
+    rw c.in-CenteredBinomial.is (c.judged-in-CenteredBinomial.ensures ∙ rw c.new-made.ensures (prepares_binomial _))
 
 pub prepare_spec : {M : Type 1} → statement M
 prepare_spec =

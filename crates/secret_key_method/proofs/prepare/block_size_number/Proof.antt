@@ -10,14 +10,14 @@ returns : tie.Need-returns-then-block_size-eq0
 returns c = rw c.if-block_size-eq0.true
 
 returns-2 : tie.Need-returns-then-block_size-eq18446744073709551615
-returns-2 c = rw (c.in-FIRST.is, c.if-block_size-eq18446744073709551615.true)
+returns-2 c = rw (c.in-AtMostOne.is, c.if-block_size-eq18446744073709551615.true)
 
 returns-3 : tie.Need-returns-else-block_size-eq18446744073709551615
 returns-3 c =
-    let args = c.before.before.before.before.args in
+    let args = c.args in
     rw (
-      c.in-FIRST.is,
-      ne_eqb _ _ c.before.before.before.if-block_size-eq0.false,
+      c.in-AtMostOne.is,
+      ne_eqb _ _ c.if-block_size-eq0.false,
       le-ltb (2 ^ 64 - 1) (suc args.block_size) (omega arith),
     )
 
@@ -25,8 +25,8 @@ returns-4 : tie.Need-returns-in-ExactlyOne
 returns-4 c =
     rw (
       c.in-ExactlyOne.is,
-      ne_eqb _ _ c.before.before.if-block_size-eq0.false,
-      le-ltb (2 ^ 64 - 1) c.before.before.before.args.block_size (omega arith),
+      ne_eqb _ _ c.if-block_size-eq0.false,
+      le-ltb (2 ^ 64 - 1) c.args.block_size (omega arith),
     )
 
 pub block_size_number_spec : {M : Type 1} → statement M
