@@ -1,6 +1,7 @@
 -- `draw::sample_to` draws by the sampler's plan.
 use mathlib.Core.Path.{refl, sym, ap, ◌∙◌}
 use lib.ListN.{length, replicate}
+use mir.Syntax.{w64}
 use mir.Facts.{to_z-of_z}
 use borrow.Author.Rules.{rules, sfits_of}
 use borrow.Author.Tests.{not-true, not-false}
@@ -36,8 +37,8 @@ returns-3 c =
     let told = good.before.before.before.before in
     let a = told.before.before.before.args in (
       plan_constant (λ cs. cs) (λ x. x) (λ cs. sym (map_id cs)) a.words.now a.place a.output.now _ told.before.plan_of-plan.ensures
-          told.answer_of-answer.ensures good.if-answer-ne0.false constant.if-not-plan.true
-          (c.before.fill.ensures ∙ ap (replicate (length a.output.now)) (to_z-of_z (sfits_of value.encoded.type_inv) ∙ value.encoded.ensures)),
+          told.answer_of-answer.ensures good.if-answer-ne0.false (not-true _ constant.if-not-plan.true)
+          (c.before.fill.ensures ∙ ap (replicate (length a.output.now)) (to_z-of_z {w = w64} (sfits_of value.encoded.type_inv) ∙ value.encoded.ensures)),
       answer_reports _ _ _ _ _ told.answer_of-answer.ensures (sampler_skips _ _ _),
     )
 
@@ -48,7 +49,7 @@ fill-requires-2 c κs =
     let told = good.before.before.before.before in
     let a = told.before.before.before.args in
     plan_enough (λ cs. cs) (λ x. x) (λ cs. sym (map_id cs)) a.words.now a.place a.output.now a.ends told.before.plan_of-plan.ensures
-    told.answer_of-answer.ensures good.if-answer-ne0.false reading.if-not-plan.false
+    told.answer_of-answer.ensures good.if-answer-ne0.false (not-false _ reading.if-not-plan.false)
 
 returns-4 : tie.Need-returns
 returns-4 c =
@@ -58,7 +59,7 @@ returns-4 c =
     let start = told.before.before in
     let a = start.before.args in (
       plan_read (λ cs. cs) (λ x. x) (λ cs. sym (map_id cs)) a.words.now a.place a.output.now _ told.before.plan_of-plan.ensures
-          told.answer_of-answer.ensures good.if-answer-ne0.false reading.if-not-plan.false
+          told.answer_of-answer.ensures good.if-answer-ne0.false (not-false _ reading.if-not-plan.false)
           (λ i. (start.shared_slice_known-1.given i).fits) c.before.fill-2.ensures,
       answer_reports _ _ _ _ _ told.answer_of-answer.ensures (sampler_skips _ _ _),
     )

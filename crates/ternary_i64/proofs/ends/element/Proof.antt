@@ -26,7 +26,7 @@ cast-result-3 c = let read = c.before.before.before.before in sfits_of (omega (a
 returns : tie.Need-returns-then-word-plan
 returns c =
     let read = c.before.before.before in
-    to_z-of_z (sfits_of c.minus_one.type_inv) ∙ c.minus_one.ensures ∙ rw (← read.wide_word-word.ensures) (value-below _ _ c.before.if-word-plan.true)
+    to_z-of_z {w = w64} (sfits_of c.minus_one.type_inv) ∙ c.minus_one.ensures ∙ rw (← read.wide_word-word.ensures) (value-below _ _ c.before.if-word-plan.true)
 
 returns-2 : tie.Need-returns-else-word-plan
 returns-2 c =

@@ -4,6 +4,8 @@ use mathlib.Core.Path.{◌≡◌, ◌∙◌}
 use Prim.Native.Nat.{◌+◌, ◌*◌, ◌-◌, ◌%◌}
 use native.Mathlib.Omega.{arith}
 use lib.ListN.{length-set}
+use borrow.Rule.Slice.PartMut.{same_len_mid}
+use mir.Syntax.{w64}
 use mir.Facts.{to_z-of_z}
 use borrow.Author.Rules.{sfits_of}
 use Rattle.numbers.proofs.WideStores.{Stored, stored_none, stored_four, left_enough, stored-rest}
@@ -28,9 +30,9 @@ loop-again c =
     let turn = first.before.before.loop-i in (
       omega arith,
       omega arith,
-      stored_four _ _ _ _ turn.invariant.2 (omega arith) turn.invariant.0 (to_z-of_z (sfits_of first.element-first.type_inv) ∙ first.element-first.ensures)
-          (to_z-of_z (sfits_of second.element-second.type_inv) ∙ second.element-second.ensures) (to_z-of_z (sfits_of third.element-third.type_inv) ∙ third.element-third.ensures)
-          (to_z-of_z (sfits_of c.element-fourth.type_inv) ∙ c.element-fourth.ensures),
+      stored_four _ _ _ _ turn.invariant.2 (omega arith) turn.invariant.0 (to_z-of_z {w = w64} (sfits_of first.element-first.type_inv) ∙ first.element-first.ensures)
+          (to_z-of_z {w = w64} (sfits_of second.element-second.type_inv) ∙ second.element-second.ensures) (to_z-of_z {w = w64} (sfits_of third.element-third.type_inv) ∙ third.element-third.ensures)
+          (to_z-of_z {w = w64} (sfits_of c.element-fourth.type_inv) ∙ c.element-fourth.ensures),
     )
 
 fill-rest-requires : tie.Need-fill_rest-requires invariant-loop-i decreases-loop-i
@@ -39,7 +41,7 @@ fill-rest-requires c κs =
     left_enough _ _ _ _ at-loop.loop-i.invariant.2 at-loop.loop-i.invariant.0 at-loop.before.before.requires
 
 same_length : tie.Need-shape_of-output invariant-loop-i decreases-loop-i
-same_length c = let at-loop = c.before.before.before.before in c.output.given.1 ∙ at-loop.loop-i.invariant.2.same_length
+same_length c = let at-loop = c.before.before.before.before in same_len_mid _ _ _ _ c.fill_rest.auto.output ∙ at-loop.loop-i.invariant.2.same_length
 
 returns : tie.Need-returns invariant-loop-i decreases-loop-i
 returns c =

@@ -2,6 +2,7 @@
 use mathlib.Core.Path.{◌≡◌, refl, ◌∙◌}
 use Prim.Native.Nat.{◌+◌, ◌*◌, ◌-◌}
 use native.Mathlib.Omega.{arith}
+use mir.Syntax.{w64}
 use mir.Facts.{to_z-of_z}
 use borrow.Author.Rules.{sfits_of}
 use Rattle.numbers.proofs.WideStores.{Stored, stored_none, stored_more, stored-all}
@@ -22,7 +23,7 @@ loop-again : tie.Need-loop-i-preserved invariant-loop-i decreases-loop-i
 loop-again c =
     let turn = c.before.before.loop-i in (
       omega arith,
-      stored_more _ _ _ _ turn.invariant.1 (omega arith) turn.invariant.0 refl (to_z-of_z (sfits_of c.element.type_inv) ∙ c.element.ensures),
+      stored_more _ _ _ _ turn.invariant.1 (omega arith) turn.invariant.0 refl (to_z-of_z {w = w64} (sfits_of c.element.type_inv) ∙ c.element.ensures),
     )
 
 returns : tie.Need-returns invariant-loop-i decreases-loop-i

@@ -4,7 +4,7 @@ use Rattle.ternary_u64.proofs.draw.encoded.Statement.{statement}
 use Rattle.ternary_u64.proofs.draw.encoded.Tie as tie
 
 returns : tie.Need-returns-in-MinusOne
-returns c = rw c.before.enum_told-1.given.1 c.minus_one.ensures
+returns c = rw c.in-MinusOne.is c.minus_one.ensures
 
 pub encoded_spec : {M : Type 1} → statement M
 encoded_spec =

@@ -39,7 +39,7 @@ returns-3 c =
     let a = told.before.before.before.before.args in (
       plan_constant (held a.encoding) (held_one a.encoding) (λ cs. refl) a.words.now a.place a.output.now _
           told.before.plan_of-plan.ensures told.answer_of-answer.ensures
-          good.if-answer-ne0.false constant.if-not-plan.true
+          good.if-answer-ne0.false (not-true _ constant.if-not-plan.true)
           (c.before.before.fill.ensures ∙ ap (replicate (length a.output.now)) value.encoded.ensures),
       answer_reports _ _ _ _ _ told.answer_of-answer.ensures (sampler_skips _ _ _),
     )
@@ -51,7 +51,7 @@ fill-requires-2 c κs =
     let told = good.before.before.before.before in
     let a = told.before.before.before.before.args in
     plan_enough (held a.encoding) (held_one a.encoding) (λ cs. refl) a.words.now a.place a.output.now a.ends
-    told.before.plan_of-plan.ensures told.answer_of-answer.ensures good.if-answer-ne0.false reading.if-not-plan.false
+    told.before.plan_of-plan.ensures told.answer_of-answer.ensures good.if-answer-ne0.false (not-false _ reading.if-not-plan.false)
 
 returns-4 : tie.Need-returns
 returns-4 c =
@@ -61,7 +61,7 @@ returns-4 c =
     let start = told.before.before in
     let a = start.before.before.args in (
       plan_read (held a.encoding) (held_one a.encoding) (λ cs. refl) a.words.now a.place a.output.now _ told.before.plan_of-plan.ensures
-          told.answer_of-answer.ensures good.if-answer-ne0.false reading.if-not-plan.false
+          told.answer_of-answer.ensures good.if-answer-ne0.false (not-false _ reading.if-not-plan.false)
           (λ i. (start.shared_slice_known-1.given i).fits) c.before.before.fill-2.ensures,
       answer_reports _ _ _ _ _ told.answer_of-answer.ensures (sampler_skips _ _ _),
     )

@@ -9,6 +9,7 @@ use Rattle.numbers.proofs.WideStores.{Stored, stored_none, stored_four, left_eno
 use Rattle.ternary.specs.Sampler.{plan_value}
 use Rattle.ternary_u64.proofs.ends.fill.Statement.{statement}
 use Rattle.ternary_u64.proofs.ends.fill.Tie as tie
+use borrow.Rule.Slice.PartMut.{same_len_mid}
 
 abbrev invariant-loop-i : tie.invariant-loop-i
 invariant-loop-i output₀ encoding plan words place n end i₀ at₀ output i at =
@@ -37,7 +38,7 @@ fill-rest-requires c κs =
 same_length : tie.Need-shape_of-output invariant-loop-i decreases-loop-i
 same_length c =
     let at-loop = c.before.before.before.before.before in
-    c.before.output-1.given.1 ∙ at-loop.loop-i.invariant.2.same_length
+    same_len_mid _ _ _ _ c.fill_rest.auto.output ∙ at-loop.loop-i.invariant.2.same_length
 
 returns : tie.Need-returns invariant-loop-i decreases-loop-i
 returns c =
