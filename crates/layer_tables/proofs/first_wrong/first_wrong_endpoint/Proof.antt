@@ -1,5 +1,6 @@
 -- `first_wrong_endpoint` leaves at the first wrong entry. The loop's invariant: `before` is the index before i, and none of the first i is wrong.
-use mathlib.Core.Path.{◌≡◌}
+use mathlib.Core.Path.{◌≡◌, ap}
+use mathlib.Core.Bool.{not}
 use Prim.Native.Nat.{◌-◌}
 use native.Mathlib.Omega.{arith}
 use Rattle.distr.specs.FirstWrong.{endpoints_asked, right}
@@ -18,7 +19,7 @@ returns c =
     let at-loop = c.before.before.before.before in
     let a = at-loop.before.args in
     let l = at-loop.loop-i in
-    searched_found _ _ l.i _ c.if-not-starts-rises.true
+    searched_found _ _ l.i _ (ap not c.if-not-starts-rises.true)
     (entry (endpoints_asked a.maximum_magnitude) 0 0 a.endpoints.now l.before l.i l.invariant.0 (omega arith)) (omega arith) l.invariant.1
 
 loop-again : tie.Need-loop-i-preserved invariant-loop-i decreases-loop-i
@@ -27,7 +28,7 @@ loop-again c =
     let a = at-loop.before.args in
     let l = at-loop.loop-i in (
       omega arith,
-      searched_more _ _ l.i _ c.if-not-starts-rises.false
+      searched_more _ _ l.i _ (ap not c.if-not-starts-rises.false)
           (entry (endpoints_asked a.maximum_magnitude) 0 0 a.endpoints.now l.before l.i l.invariant.0 (omega arith)) (omega arith) l.invariant.1,
     )
 

@@ -1,5 +1,6 @@
 -- `first_wrong_height` leaves at the first wrong entry. The loop's invariant: `before` is the index before i, and none of the first i is wrong.
-use mathlib.Core.Path.{◌≡◌}
+use mathlib.Core.Path.{◌≡◌, ap}
+use mathlib.Core.Bool.{not}
 use Prim.Native.Nat.{◌-◌}
 use native.Mathlib.Omega.{arith}
 use lib.Ieee.{nan, round, of_bits}
@@ -21,7 +22,7 @@ returns c =
     let at-loop = c.before.before.before.before.before in
     let hs = at-loop.before.before.args.heights.now in
     let l = at-loop.loop-i in
-    searched_found _ _ l.i _ (rw c.before.is_finite.ensures at c.if-not-is_finite-starts.true)
+    searched_found _ _ l.i _ (rw c.before.is_finite.ensures at (ap not c.if-not-is_finite-starts.true))
     (entry heights_asked (literal 0 1) nan hs l.before l.i l.invariant.0 (omega arith)) (omega arith) l.invariant.1
 
 loop-again : tie.Need-loop-i-preserved invariant-loop-i decreases-loop-i
@@ -31,7 +32,7 @@ loop-again c =
     let hs = at-loop.before.before.args.heights.now in
     let l = at-loop.loop-i in (
       omega arith,
-      searched_more _ _ l.i _ (rw c.before.is_finite.ensures at c.if-not-is_finite-starts.false)
+      searched_more _ _ l.i _ (rw c.before.is_finite.ensures at (ap not c.if-not-is_finite-starts.false))
           (entry heights_asked (literal 0 1) nan hs l.before l.i l.invariant.0 (omega arith)) (omega arith) l.invariant.1,
     )
 

@@ -1,4 +1,6 @@
 -- `first_wrong_value` leaves at the first wrong entry. The loop's invariant: none of the first i is wrong.
+use mathlib.Core.Path.{ap}
+use mathlib.Core.Bool.{not}
 use Prim.Native.Nat.{◌-◌}
 use native.Mathlib.Omega.{arith}
 use lib.Ieee.{nan, round, of_bits}
@@ -19,14 +21,14 @@ unfolding round of_bits
 returns c =
     let l = c.before.before.before.loop-i in
     let test = value_entry nan c.before.before.before.before.args.curve.now l.i (omega arith) in
-    searched_found _ _ l.i _ c.if-not-x.true test (omega arith) l.invariant
+    searched_found _ _ l.i _ (ap not c.if-not-x.true) test (omega arith) l.invariant
 
 loop-again : tie.Need-loop-i-preserved invariant-loop-i decreases-loop-i
 unfolding round of_bits
 loop-again c =
     let l = c.before.before.before.loop-i in
     let test = value_entry nan c.before.before.before.before.args.curve.now l.i (omega arith) in
-    searched_more _ _ l.i _ c.if-not-x.false test (omega arith) l.invariant
+    searched_more _ _ l.i _ (ap not c.if-not-x.false) test (omega arith) l.invariant
 
 returns-2 : tie.Need-returns invariant-loop-i decreases-loop-i
 returns-2 c = let l = c.before.loop-i in searched_all _ _ l.i c.loop-i-test.false l.invariant

@@ -9,18 +9,15 @@ use Rattle.packed.proofs.trits.places_of.Tie as tie
 
 returns : tie.Need-returns-in-Table
 unfolding places_by
-returns c =
-    let matched = c.before.before in
-    let a = matched.before.before.args in
-    rw (c.wide-group.ensures, matched.enum_told-1.given.1, index_of a.byte (ltb a.byte 243))
+returns c = rw (c.wide-group.ensures, c.in-Table.is, index_of c.args.byte (ltb c.args.byte 243))
 
 returns-2 : tie.Need-returns-in-Division
 unfolding places_by
-returns-2 c = rw c.enum_told-in-Division-1.given.1
+returns-2 c = rw c.in-Division.is
 
 pub places_of_spec : {M : Type 1} → statement M
 places_of_spec =
     tie.close
-    (tie.spec (λ c. search rules) (λ c. search rules) (λ c. search rules) (λ c. omega (arith, index_below c.before.before.args.byte))
-    (λ c. omega (arith, index_below c.before.before.args.byte)) (λ c. index_below c.before.before.args.byte) (λ c κs. search rules)
+    (tie.spec (λ c. search rules) (λ c. search rules) (λ c. search rules) (λ c. omega (arith, index_below c.args.byte))
+    (λ c. omega (arith, index_below c.args.byte)) (λ c. index_below c.args.byte) (λ c κs. search rules)
     (λ c. search rules) (λ c. search rules) (λ c. search rules) (λ c. search rules) returns returns-2)

@@ -9,17 +9,15 @@ use Rattle.packed_i64.proofs.stores.fill_trits.Tie as tie
 
 fill-bytes-requires : tie.Need-fill_bytes-requires
 fill-bytes-requires c κs =
-    let stored = c.before.before in
-    (stored.store_words_lem.ensures.0.0, stored.store_words_lem.ensures.0.1, stored.before.before.before.requires.1)
+    (c.store_words-stored.ensures.0.0, c.store_words-stored.ensures.0.1, c.requires.1)
 
 returns : tie.Need-returns
 returns c =
-    let filled = c.before.fill_bytes.ensures in
-    let stored = c.before.before.before.before in
-    let a = stored.before.before.before.args in
+    let filled = c.fill_bytes.ensures in
+    let a = c.args in
     let all = trits_all (pos 0) a.pairs.now a.output.now (drop a.place a.words.now) in (
-      (filled.0.0, filled.0.1 ∙ stored.store_words_lem.ensures.0.2 ∙ all),
-      looked_all _ _ _ _ _ stored.store_words_lem.ensures.1 filled.1,
+      (filled.0.0, filled.0.1 ∙ c.store_words-stored.ensures.0.2 ∙ all),
+      looked_all _ _ _ _ _ c.store_words-stored.ensures.1 filled.1,
     )
 
 pub fill_trits_spec : {M : Type 1} → statement M

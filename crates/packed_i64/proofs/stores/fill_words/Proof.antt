@@ -7,21 +7,21 @@ use Rattle.packed_i64.proofs.stores.fill_words.Tie as tie
 
 fill-digits-requires : tie.Need-fill_digits-requires
 fill-digits-requires c κs =
-    let the-pre = c.before.before.before.before.requires in
-    let pre = rw c.before.enum_told-1.given.1 at (the-pre) in
+    let the-pre = c.requires in
+    let pre = rw c.in-Bits.is at (the-pre) in
     (pre.0, pre.1, record { small = omega arith; some = omega arith; most = omega arith; even = refl; paired = pre.2 })
 
 fill-digits-requires-2 : tie.Need-fill_digits-requires-in-Groups
 fill-digits-requires-2 c κs =
-    let the-pre = c.before.before.before.before.requires in
-    let pre = rw c.before.enum_told-in-Groups-1.given.1 at (the-pre) in
+    let the-pre = c.requires in
+    let pre = rw c.in-Groups.is at (the-pre) in
     (pre.0, pre.1, record { small = omega arith; some = omega arith; most = omega arith; even = refl; paired = pre.2 })
 
 returns : tie.Need-returns-in-Bits
-returns c = rw c.before.before.before.enum_told-1.given.1 c.before.fill_digits.ensures
+returns c = rw c.in-Bits.is c.fill_digits.ensures
 
 returns-2 : tie.Need-returns-in-Groups
-returns-2 c = rw c.before.before.before.enum_told-in-Groups-1.given.1 c.before.fill_digits-in-Groups.ensures
+returns-2 c = rw c.in-Groups.is c.fill_digits-in-Groups.ensures
 
 pub fill_words_spec : {M : Type 1} → statement M
 fill_words_spec =

@@ -8,11 +8,7 @@ use Rattle.packed_i64.proofs.stores.store_word.Tie as tie
 returns : tie.Need-returns
 unfolding digits
 returns c =
-    let fourth = c.before in
-    let third = fourth.before.before.before in
-    let second = third.before.before.before in
-    let first = second.before.before.before in
-    bytes-stored _ _ first.IsStore-byte.ensures (bytes-stored _ _ second.store_byte-two.ensures (bytes-stored _ _ third.store_byte-three.ensures fourth.store_byte.ensures))
+    bytes-stored _ _ c.store_byte-one.ensures (bytes-stored _ _ c.store_byte-two.ensures (bytes-stored _ _ c.store_byte-three.ensures c.store_byte.ensures))
 
 pub store_word_spec : {M : Type 1} → statement M
 store_word_spec =

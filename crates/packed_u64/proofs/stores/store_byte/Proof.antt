@@ -9,18 +9,18 @@ use Rattle.packed_u64.proofs.stores.store_byte.Tie as tie
 
 mul-result : tie.Need-overflow_mul-result
 mul-result c =
-    let args = c.before.before.before.before.before.before.args in
+    let args = c.args in
     omega (arith, once (ltb args.byte 243))
 
 add-result : tie.Need-overflow_add-result
 add-result c =
-    let args = c.before.before.before.before.before.before.args in
+    let args = c.args in
     omega (arith, once (ltb args.byte 243))
 
 returns : tie.Need-returns
 returns c =
-    let pre = c.before.before.before.before.before.before.requires in
-    byte_stored _ _ _ pre.0 refl c.before.before.store_trits.ensures
+    let pre = c.requires in
+    byte_stored _ _ _ pre.0 refl c.store_trits.ensures
 
 pub store_byte_spec : {M : Type 1} → statement M
 store_byte_spec =
