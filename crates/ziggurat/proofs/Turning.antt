@@ -57,7 +57,7 @@ signed-each cs = sym (map_id cs)
 pub signed-held : (tried : Trial) {r : ℤ} → mag r < 2 ^ 63 → tried.magnitude < 2 ^ 63
     → r ≡ cond (ltb tried.magnitude (2 ^ 63)) (with_sign tried.positive tried.magnitude) (pos 0)
     → to_z w64 (of_z w64 r) ≡ with_sign tried.positive tried.magnitude
-signed-held tried fits below e = to_z-of_z (sfits_of fits) ∙ e ∙ rw (lt-ltb tried.magnitude (2 ^ 63) below)
+signed-held tried fits below e = to_z-of_z {w = w64} (sfits_of fits) ∙ e ∙ rw (lt-ltb tried.magnitude (2 ^ 63) below)
 
 module _ {A : Type 0} (write : List ℤ → List A) (parameters : GaussianParameters) (endpoints : List ℕ) (heights curve : List Float)
     (words : List ℕ) (place : ℕ) (out₀ : List A) where

@@ -62,7 +62,7 @@ cast-fill-block c =
     let test = turn c.before.before in
     let start = begin test.before in
     let a = start.args in
-    omega (arith, mod-lt (get_or (lent_from a.words.now a.place) test.before.loop-start.at 0) start.requires.1.0, start.fits.choices)
+    omega (arith, mod-lt (get_or (lent_from a.words.now a.place) test.before.loop-start.at 0) start.requires.1.0, start.ranges.choices)
 
 fill-block-requires : tie.Need-fill_block-requires invariant-loop-start decreases-loop-start
 fill-block-requires c κs =
@@ -78,7 +78,7 @@ loop-again c encoding =
     let start = begin test.before in
     rw (add-one test.before.loop-start.at)
     (turn_more (mapped (held_one encoding)) (test.before.loop-start.invariant encoding) test.loop-start-test.true start.requires.1.0
-    (omega (arith, start.fits.choices)) if2.before.before.if-lent-at.false if2.if-word-left-le4294967296.true
+    (omega (arith, start.ranges.choices)) if2.before.before.if-lent-at.false if2.if-word-left-le4294967296.true
     c.before.before.fill_block.ensures c.before.output-then-word-left-le4294967296-1.given.1)
 
 loop-again-2 : tie.Need-loop-start-preserved invariant-loop-start decreases-loop-start
@@ -87,7 +87,7 @@ loop-again-2 c encoding =
     let start = begin test.before in
     rw (add-one test.before.loop-start.at)
     (turn-passed (mapped (held_one encoding)) (test.before.loop-start.invariant encoding) test.loop-start-test.true start.requires.1.0
-    (omega (arith, start.fits.choices)) c.before.before.if-lent-at.false c.if-word-left-le4294967296.false)
+    (omega (arith, start.ranges.choices)) c.before.before.if-lent-at.false c.if-word-left-le4294967296.false)
 
 -- the words were read up to a place of theirs
 add-succeeded-after : tie.Need-overflow_add-place invariant-loop-start decreases-loop-start
@@ -121,7 +121,7 @@ draw_blocks_spec =
     (tie.spec invariant-loop-start decreases-loop-start (λ c. search rules) (λ c. search rules) (λ c. search rules) (λ c. search rules) loop-holds (λ c κs. search rules)
     (λ c κs. search rules) same_length returns (λ c. search rules) (λ c. search rules) (λ c. search rules) (λ c. search rules) (λ c. mod-le _ _)
     (λ c. omega (arith, c.shared_slice_known-in-loop-start-1.given (turn c).before.loop-start.at))
-    (λ c. omega (arith, c.shared_slice_known-in-loop-start-1.given (turn c).before.loop-start.at, (begin (turn c).before).fits.choices))
+    (λ c. omega (arith, c.shared_slice_known-in-loop-start-1.given (turn c).before.loop-start.at, (begin (turn c).before).ranges.choices))
     (λ c. omega (arith, room c)) (λ c. omega (arith, room c)) (λ c. omega (arith, room c)) (λ c. omega (arith, room c)) (λ c. room c) cast-fill-block
     fill-block-requires (λ c. omega arith) loop-again (λ c. omega arith) loop-again-2 add-succeeded-after (λ c. omega (arith, (begin c.before).requires.0.0))
     (λ c. omega (arith, counted c)) (λ c κs. search rules) (λ c. (c.before.before.loop-start.invariant any).kept) returns-2)

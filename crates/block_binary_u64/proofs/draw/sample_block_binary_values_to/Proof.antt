@@ -34,37 +34,31 @@ good c =
 
 draw-blocks-requires : tie.Need-draw_blocks-requires
 draw-blocks-requires c κs =
-    let g = good c.before.before.before in
+    let g = good c.before.before in
     ((g.some, g.whole, g.within, g.small), (omega (arith, g.some), λ f. le_refl _))
 
 draw-blocks-requires-2 : tie.Need-draw_blocks-requires-in-AtMostOne
 draw-blocks-requires-2 c κs =
-    let g = good c.before.before.before in
+    let g = good c.before.before in
     ((g.some, g.whole, g.within, g.small), (omega arith, λ f. let no : ◌≡◌ {A = ℕ} 0 1 = ap bool_byte f in absurd (omega arith)))
 
 returns-2 : tie.Need-returns-in-ExactlyOne
 returns-2 c =
-    let drew = c.before.before in
-    let one = drew.before.before in
-    let told = one.before.before.before in
-    let a = told.before.before.before.before.args in
-    let same : a.block_size ≡ categories a.block_size a.occupancy = rw one.enum_told-1.given.1 in
-    drawn (held a.encoding) a.words.now _ a.block_size a.occupancy a.output.now told.before.block_number-own.ensures
-    told.draw_number-number.ensures one.before.before.if-number-ne0.false same drew.draw_blocks.result drew.draw_blocks.ensures
+    let a = c.args in
+    let same : a.block_size ≡ categories a.block_size a.occupancy = rw c.in-ExactlyOne.is in
+    drawn (held a.encoding) a.words.now _ a.block_size a.occupancy a.output.now c.block_number-own.ensures
+    c.draw_number-number.ensures c.if-number-ne0.false same c.draw_blocks.result c.draw_blocks.ensures
 
 returns-3 : tie.Need-returns-in-AtMostOne
 returns-3 c =
-    let drew = c.before.before in
-    let one = drew.before.before in
-    let told = one.before.before.before in
-    let a = told.before.before.before.before.args in
-    let same : a.block_size + 1 ≡ categories a.block_size a.occupancy = rw one.enum_told-in-AtMostOne-1.given.1 (omega arith) in
-    drawn (held a.encoding) a.words.now _ a.block_size a.occupancy a.output.now told.before.block_number-own.ensures
-    told.draw_number-number.ensures one.before.before.if-number-ne0.false same drew.draw_blocks-in-AtMostOne.result drew.draw_blocks-in-AtMostOne.ensures
+    let a = c.args in
+    let same : a.block_size + 1 ≡ categories a.block_size a.occupancy = rw c.in-AtMostOne.is (omega arith) in
+    drawn (held a.encoding) a.words.now _ a.block_size a.occupancy a.output.now c.block_number-own.ensures
+    c.draw_number-number.ensures c.if-number-ne0.false same c.draw_blocks-in-AtMostOne.result c.draw_blocks-in-AtMostOne.ensures
 
 pub sample_block_binary_values_to_spec : {M : Type 1} → statement M
 sample_block_binary_values_to_spec =
     tie.close
     (tie.spec (λ c κs. search rules) (λ c κs. search rules) (λ c κs. search rules) returns (λ c. omega (arith, (good c).small))
-    (λ c. search rules) draw-blocks-requires (λ c. search rules) (λ c. omega (arith, (good c.before.before.before).small)) draw-blocks-requires-2
+    (λ c. search rules) draw-blocks-requires (λ c. search rules) (λ c. omega (arith, (good c.before.before).small)) draw-blocks-requires-2
     (λ c. search rules) returns-2 (λ c. search rules) returns-3)
