@@ -2,13 +2,12 @@
 use mathlib.Core.Path.{◌≡◌}
 use mathlib.Core.Bool.{Bool, true, false, cond}
 use mathlib.Core.List.{List, []}
-use mathlib.Core.Logic.{◌⊎◌, inl, inr}
 use Prim.Native.Nat.{ℕ, suc, ◌+◌, ◌-◌, ◌*◌, ◌^◌, ◌<◌, ◌≤◌}
 use native.Mathlib.Nat.{ne_of_lt, add-zero}
 use native.Mathlib.Numerals.{add-one, add-two}
 use native.Mathlib.Omega.{arith}
 use lib.Dec.{T, leb, ltb, eqb}
-use borrow.Author.Tests.{eq-eqb, ne_eqb}
+use borrow.Author.Tests.{ne_eqb}
 use lib.ListN.{length, get_or, drop}
 use lib.Ieee.{Float, nan, le}
 use Rattle.distr.specs.Constants.{literal}
@@ -38,11 +37,6 @@ pub layer_read : (endpoints : List ℕ) (heights : List Float) (i : ℕ) (top : 
     } ≡ layer_at (tables endpoints heights []) i
 layer_read endpoints heights i top some there start =
     rw (get_d_there heights i nan (literal 0 1) there, start, get_d_there heights (i - 1) nan (literal 0 1) (omega arith))
-
--- where its chord starts, chosen by two arms, of which P and Q are what is known there: the first layer's at a, another's at b
-pub chord_start : {P Q : Type 0} {i : ℕ} {top a b : Float} → (P × (top ≡ a)) ⊎ (Q × (top ≡ b)) → (P → i ≡ 1) → (Q → i ≡ 1 → ⊥) → top ≡ cond (eqb i 1) a b
-chord_start {i = i} (inl (p, e)) first later = rw (eq-eqb i 1 (first p)) e
-chord_start {i = i} (inr (q, e)) first later = rw (ne_eqb i 1 (later q)) e
 
 -- the words that the judging reads: one on the edge; for zero two, none by the full threshold
 module _ (k m : ℕ) where

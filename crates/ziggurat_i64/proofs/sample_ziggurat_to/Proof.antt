@@ -21,49 +21,30 @@ loop-holds c =
 
 -- the words that a turn uses lie between its place and the next
 uses : (c : tie.After-struct_known-1 invariant-loop-i decreases-loop-i)
-    → let at = c.before.before.before.before.before.before.loop-i in
-    let got = c.before.before.tried-1.given.0 in
-    (at.used ≤ at.at) × (at.at + 3 ≤ got.0.place) × (got.0.place ≤ got.1.1.0)
-uses c =
-    let trial = c.before.before in
-    let attempted = trial.before.before in
-    let turn = attempted.before in
-    turn_uses _ _ _ _ _ _ _ _ turn.before.loop-i.invariant turn.loop-i-test.true _ attempted.attempt.ensures trial.tried-1.given.1
+    → (c.loop-i.used ≤ c.loop-i.at) × (c.loop-i.at + 3 ≤ c.in-Got.tried.place) × (c.in-Got.tried.place ≤ c.in-Got.after)
+uses c = turn_uses _ _ _ _ _ _ _ _ c.loop-i.invariant c.loop-i-test.true _ c.attempt.ensures c.in-Got.is
 
 -- what the judging of a trial at the edge asks for
 passes-edge-requires : tie.Need-passes_edge-passed-requires invariant-loop-i decreases-loop-i
-passes-edge-requires c κs =
-    let edge = c.before.before in
-    let trial = edge.before.before.before in
-    let attempted = trial.before.before in
-    let turn = attempted.before in
-    let inv = turn.before.loop-i.invariant in (
-      edge_on _ _ _ _ _ _ _ _ inv turn.loop-i-test.true _ attempted.attempt.ensures trial.tried-1.given.1,
-      (
-        inv.threshold,
-        edge_there _ _ _ _ _ _ _ _ inv turn.loop-i-test.true _ attempted.attempt.ensures trial.tried-1.given.1 edge.if-inside.false,
-      ),
-    )
+passes-edge-requires c κs = (
+  edge_on _ _ _ _ _ _ _ _ c.loop-i.invariant c.loop-i-test.true _ c.attempt.ensures c.in-Got.is,
+  (
+    c.loop-i.invariant.threshold,
+    edge_there _ _ _ _ _ _ _ _ c.loop-i.invariant c.loop-i-test.true _ c.attempt.ensures c.in-Got.is c.if-inside.false,
+  ),
+)
 
 -- the turn stores its trial's coefficient, which passed inside the layer above
 loop-again : tie.Need-loop-i-preserved-then-inside invariant-loop-i decreases-loop-i
 loop-again c =
-    let inside = c.before.before in
-    let trial = inside.before.before.before in
-    let attempted = trial.before.before in
-    let turn = attempted.before in
-    turn-next _ _ _ _ _ _ _ _ turn.before.loop-i.invariant turn.loop-i-test.true _ attempted.attempt.ensures trial.tried-1.given.1 _
-    (inl (inside.if-inside.true, refl)) (signed-held trial.tried-1.given.0.0 c.coefficient.type_inv (omega (arith, c.before.struct_known-then-inside-1.given)) c.coefficient.ensures)
+    turn-next _ _ _ _ _ _ _ _ c.loop-i.invariant c.loop-i-test.true _ c.attempt.ensures c.in-Got.is _
+    (inl (c.if-inside.true, refl)) (signed-held c.in-Got.tried c.coefficient.type_inv (omega (arith, c.struct_known-then-inside-1.given)) c.coefficient.ensures)
 
 -- or is judged at the edge
 loop-again-2 : tie.Need-loop-i-preserved invariant-loop-i decreases-loop-i
 loop-again-2 c =
-    let edge = c.before.before.before in
-    let trial = edge.before.before.before in
-    let attempted = trial.before.before in
-    let turn = attempted.before in
-    turn-next _ _ _ _ _ _ _ _ turn.before.loop-i.invariant turn.loop-i-test.true _ attempted.attempt.ensures trial.tried-1.given.1 _
-    (inr (edge.if-inside.false, _, c.passes_edge-passed.ensures, refl)) (signed-held trial.tried-1.given.0.0 c.before.coefficient-else-inside.type_inv (omega (arith, c.before.before.struct_known-else-inside-1.given)) c.before.coefficient-else-inside.ensures)
+    turn-next _ _ _ _ _ _ _ _ c.loop-i.invariant c.loop-i-test.true _ c.attempt.ensures c.in-Got.is _
+    (inr (c.if-inside.false, _, c.passes_edge-passed.ensures, refl)) (signed-held c.in-Got.tried c.coefficient-else-inside.type_inv (omega (arith, c.struct_known-else-inside-1.given)) c.coefficient-else-inside.ensures)
 
 pub sample_ziggurat_to_spec : {M : Type 1} → statement M
 sample_ziggurat_to_spec =
