@@ -9,16 +9,12 @@ use Rattle.method_draws_u64.proofs.sample_to_with.Tie as tie
 
 returns-10 : tie.Need-returns-then-p-le-CDT_MAX_MAGNITUDE
 returns-10 c =
-    let drawn = c.before.before in
-    let at = c.before.before in
-    let told = at.before.before.before.method-in-Gaussian-1.is in
+    let told = c.in-Gaussian.is in
     (by-table _ _ _ _ _ told c.if-p-le-CDT_MAX_MAGNITUDE.true c.sample_cdt_to.ensures.0, skips-by-table _ _ _ told _ c.if-p-le-CDT_MAX_MAGNITUDE.true c.sample_cdt_to.ensures.1)
 
 returns-11 : tie.Need-returns-else-p-le-CDT_MAX_MAGNITUDE
 returns-11 c =
-    let drawn = c.before.before in
-    let at = c.before.before in
-    let told = at.before.before.before.method-in-Gaussian-1.is in
+    let told = c.in-Gaussian.is in
     (by-layers _ _ _ _ _ told c.if-p-le-CDT_MAX_MAGNITUDE.false c.sample_ziggurat_to.ensures.0, skips-by-layers _ _ _ told _ c.if-p-le-CDT_MAX_MAGNITUDE.false c.sample_ziggurat_to.ensures.1)
 
 pub sample_to_with_spec : {M : Type 1} → statement M
@@ -30,34 +26,34 @@ sample_to_with_spec =
     (λ c. search rules) (λ c κs. search rules) (λ c κs. search rules)
     (λ c. search rules) (λ c κs. search rules) (λ c. search rules) (λ c κs. search rules)
     (λ c. search rules)
-    (λ c. let drawn = c.before.before in let told = c.before.before.enum_told-1.is in
+    (λ c. let told = c.in-UniformBinary.is in
     unfold method_draw method_skips in (rw told c.sample_uniform_binary_values_to.ensures.0, rw told c.sample_uniform_binary_values_to.ensures.1))
     (λ c. search rules)
-    (λ c. let drawn = c.before.before in let told = c.before.before.before.method-1.is in
+    (λ c. let told = c.in-Binary.is in
     unfold method_draw method_skips in (rw told c.fill_binary.ensures.0, rw told c.fill_binary.ensures.1))
     (λ c. search rules)
-    (λ c. let drawn = c.before.before in let told = c.before.before.enum_told-in-SparseTernary-1.is in
+    (λ c. let told = c.in-SparseTernary.is in
     unfold method_draw method_skips in (rw told c.sample_sparse_ternary_values_to.ensures.0, rw told c.sample_sparse_ternary_values_to.ensures.1))
     (λ c. search rules)
-    (λ c. let drawn = c.before.before in let told = c.before.before.enum_told-in-UniformTernary-1.is in
+    (λ c. let told = c.in-UniformTernary.is in
     unfold method_draw method_skips in (rw told c.sample_uniform_ternary_values_to.ensures.0, rw told c.sample_uniform_ternary_values_to.ensures.1))
     (λ c. search rules)
-    (λ c. let drawn = c.before.before in let told = c.before.before.before.method-in-Ternary-1.is in
+    (λ c. let told = c.in-Ternary.is in
     unfold method_draw method_skips in (rw told c.sample_to.ensures.0, rw told c.sample_to.ensures.1))
     (λ c. search rules)
-    (λ c. let drawn = c.before.before in let told = c.before.before.before.method-in-FixedHammingWeightBinary-1.is in
+    (λ c. let told = c.in-FixedHammingWeightBinary.is in
     unfold method_draw method_skips in (rw told c.sample_fixed_hamming_weight_binary_values_to.ensures.0, rw told c.sample_fixed_hamming_weight_binary_values_to.ensures.1))
     (λ c. search rules)
-    (λ c. let drawn = c.before.before in let told = c.before.before.before.method-in-BlockBinary-1.is in
+    (λ c. let told = c.in-BlockBinary.is in
     unfold method_draw method_skips in (rw told c.sample_block_binary_values_to.ensures.0, rw told c.sample_block_binary_values_to.ensures.1))
     (λ c. search rules)
-    (λ c. let drawn = c.before.before in let told = c.before.before.before.method-in-FixedHammingWeightTernary-1.is in
+    (λ c. let told = c.in-FixedHammingWeightTernary.is in
     unfold method_draw method_skips in (rw told c.sample_fixed_hamming_weight_ternary_values_to.ensures.0, rw told c.sample_fixed_hamming_weight_ternary_values_to.ensures.1))
     (λ c. search rules)
-    (λ c. let drawn = c.before.before in let told = c.before.before.before.method-in-FixedCompositionTernary-1.is in
+    (λ c. let told = c.in-FixedCompositionTernary.is in
     unfold method_draw method_skips in (rw told c.sample_fixed_composition_ternary_values_to.ensures.0, rw told c.sample_fixed_composition_ternary_values_to.ensures.1))
     (λ c. search rules) returns-10 (λ c. search rules) returns-11
     (λ c. search rules)
-    (λ c. let drawn = c.before.before in let told = c.before.before.before.method-in-CenteredBinomial-1.is in
+    (λ c. let told = c.in-CenteredBinomial.is in
     unfold method_draw method_skips in (rw told c.sample_binomial_to.ensures.0, rw told c.sample_binomial_to.ensures.1))
     (λ c. (unfold method_draw in rw (c.in-Empty.is, c.refused.ensures), reports_refused _ (λ z. omega arith) c.refused.ensures)))
