@@ -9,28 +9,23 @@ use Rattle.prepared_draws.proofs.crt_draw.draw_row.Tie as tie
 
 returns-10 : tie.Need-returns-then-p-le-CDT_MAX_MAGNITUDE
 returns-10 c =
-    let drawn = c.before.before in
-    let at = drawn.before.before in
-    let told = at.before.before.before.method-1.is in (
-      row_served _ _ _ _ refl told (by-table _ _ _ _ _ told at.if-p-le-CDT_MAX_MAGNITUDE.true drawn.sample_cdt_to.ensures.0),
-      skips-by-table _ _ _ told _ at.if-p-le-CDT_MAX_MAGNITUDE.true drawn.sample_cdt_to.ensures.1,
+    let told = c.in-Gaussian.is in (
+      row_served _ _ _ _ refl told (by-table _ _ _ _ _ told c.if-p-le-CDT_MAX_MAGNITUDE.true c.sample_cdt_to.ensures.0),
+      skips-by-table _ _ _ told _ c.if-p-le-CDT_MAX_MAGNITUDE.true c.sample_cdt_to.ensures.1,
     )
 
 returns-11 : tie.Need-returns-else-p-le-CDT_MAX_MAGNITUDE
 returns-11 c =
-    let drawn = c.before.before in
-    let at = drawn.before.before in
-    let told = at.before.before.before.method-1.is in (
-      row_served _ _ _ _ refl told (by-layers _ _ _ _ _ told at.if-p-le-CDT_MAX_MAGNITUDE.false drawn.sample_ziggurat_to.ensures.0),
-      skips-by-layers _ _ _ told _ at.if-p-le-CDT_MAX_MAGNITUDE.false drawn.sample_ziggurat_to.ensures.1,
+    let told = c.in-Gaussian.is in (
+      row_served _ _ _ _ refl told (by-layers _ _ _ _ _ told c.if-p-le-CDT_MAX_MAGNITUDE.false c.sample_ziggurat_to.ensures.0),
+      skips-by-layers _ _ _ told _ c.if-p-le-CDT_MAX_MAGNITUDE.false c.sample_ziggurat_to.ensures.1,
     )
 
 returns-12 : tie.Need-returns-in-CenteredBinomial
 returns-12 c =
-    let drawn = c.before.before in
-    let told = drawn.before.before.before.method-in-CenteredBinomial-1.is in (
-      row_served _ _ _ _ refl told (unfold method_draw in rw told drawn.sample_binomial_to.ensures.0),
-      unfold method_skips in rw told drawn.sample_binomial_to.ensures.1,
+    let told = c.in-CenteredBinomial.is in (
+      row_served _ _ _ _ refl told (unfold method_draw in rw told c.sample_binomial_to.ensures.0),
+      unfold method_skips in rw told c.sample_binomial_to.ensures.1,
     )
 
 pub draw_row_spec : {M : Type 1} → statement M
@@ -40,13 +35,13 @@ draw_row_spec =
     (λ c. search rules) (λ c κs. search rules) (λ c. search rules) (λ c κs. search rules) (λ c. search rules) (λ c κs. search rules)
     (λ c. search rules) (λ c κs. search rules) (λ c. search rules) (λ c κs. search rules) (λ c. search rules) (λ c κs. search rules)
     (λ c. search rules) (λ c κs. search rules) (λ c κs. search rules) (λ c. search rules) (λ c κs. search rules) (λ c. search rules) (λ c κs. search rules)
-    (λ c. row-refused _ _ _ _ refl c.in-CenteredBinomial.is c.refused.ensures)
+    (λ c. row-refused _ _ _ _ refl c.in-UniformBinary.is c.refused.ensures)
     (λ c. row-refused _ _ _ _ refl c.in-Binary.is c.refused-in-Binary.ensures)
     (λ c. row-refused _ _ _ _ refl c.in-SparseTernary.is c.refused-in-SparseTernary.ensures)
     (λ c. row-refused _ _ _ _ refl c.in-UniformTernary.is c.refused-in-UniformTernary.ensures)
-    (λ c. row-refused _ _ _ _ (ternary_apart c.before.enum_told-in-Ternary-1.given.0.0) c.in-Ternary.is c.refused-in-Ternary.ensures)
+    (λ c. row-refused _ _ _ _ (ternary_apart c.in-Ternary.field-0) c.in-Ternary.is c.refused-in-Ternary.ensures)
     (λ c. row-refused _ _ _ _ refl c.in-FixedHammingWeightBinary.is c.refused-in-FixedHammingWeightBinary.ensures)
-    (λ c. row-refused _ _ _ _ (blocks_apart c.before.enum_told-in-BlockBinary-1.given.0.0 c.before.enum_told-in-BlockBinary-1.given.0.1.0) c.in-BlockBinary.is c.refused-in-BlockBinary.ensures)
+    (λ c. row-refused _ _ _ _ (blocks_apart c.in-BlockBinary.block_size c.in-BlockBinary.occupancy) c.in-BlockBinary.is c.refused-in-BlockBinary.ensures)
     (λ c. row-refused _ _ _ _ refl c.in-FixedHammingWeightTernary.is c.refused-in-FixedHammingWeightTernary.ensures)
     (λ c. row-refused _ _ _ _ refl c.in-FixedCompositionTernary.is c.refused-in-FixedCompositionTernary.ensures)
     (λ c. search rules) returns-10 (λ c. search rules) returns-11 (λ c. search rules) returns-12
