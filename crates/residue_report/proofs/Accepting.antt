@@ -1,10 +1,6 @@
 -- A good text is never refused: the report over what was read of it has the number 0.
-use mathlib.Core.Path.{◌≡◌}
-use mathlib.Core.List.{List}
-use Prim.Native.Nat.{ℕ, ◌<◌, ◌≤◌}
-use native.Mathlib.Omega.{arith}
-use lib.ListN.{length, take, length-take}
-use lib.Seq.{get_or-take}
+use Rattle.std.proofs.Common.{◌≡◌, ℕ, ◌<◌, ◌≤◌, List, arith, length, take}
+use Rattle.std.proofs.lemmas.List.{get_or-take, length-take}
 use Rattle.stats.specs.Report.{report_number}
 use Rattle.stats.proofs.Below.{all-below}
 use Rattle.stats.proofs.Reports.{not-refused-report}
