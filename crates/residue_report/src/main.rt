@@ -1,4 +1,4 @@
-// The report of 02 [2] over a modulus, limits and residues in decimal text: on standard input, or in the files that the arguments name, where `-` is
+// The report over a modulus, limits and residues in decimal text: on standard input, or in the files that the arguments name, where `-` is
 // standard input and a line with the name stands before each answer. The report never refuses a good text (proofs/Accepting).
 #![tactic(auto)]
 
@@ -7,27 +7,20 @@ mod room;
 
 use full_read::{read_file, read_full};
 use residue_text::read_input;
-use stats::residue_report;
+use stats::{Report, residue_report};
 use std::rt::Runtime;
 use std::{env, io};
 
 // Longest text in bytes.
 const MAX_TEXT: usize = 2097152;
 
-// Prints the report over residues, with a list for the counts.
-fn report_on(
-    rt: &impl Print,
-    residues: &[u64],
-    modulus: u64,
-    limits: &[u64],
-    counts: &mut [u64],
-) -> io::Result<()> {
-    let report = residue_report(residues, modulus, limits, counts);
+// Prints a report with the counts for its limits.
+fn report_on(rt: &impl Print, report: Report, limits: &[u64], counts: &[u64]) -> io::Result<()> {
     print::report(rt, report)?;
     print::counts(rt, limits, counts)
 }
 
-// Reads a text and prints its report, or which number of it is bad.
+// Reads a text and prints its report, or which number of it is bad. The report over a good text is never refused (proofs/Accepting).
 fn answer(rt: &impl Print, text: &[u8]) -> io::Result<()> {
     let mut limits = room::limits_room();
     let mut residues = room::residues_room();
@@ -38,13 +31,14 @@ fn answer(rt: &impl Print, text: &[u8]) -> io::Result<()> {
     let limit_count = input.limit_count;
     let residue_count = input.residue_count;
     let mut counts = room::limits_room();
-    report_on(
-        rt,
+    let report = residue_report(
         &residues[..residue_count],
         input.modulus,
         &limits[..limit_count],
         &mut counts[..limit_count],
-    )
+    );
+    prove!(report.number == 0);
+    report_on(rt, report, &limits[..limit_count], &counts[..limit_count])
 }
 
 // Answers a text that was read. One byte more than a text may have is asked for, so that a longer one is noticed.
