@@ -4,8 +4,9 @@
 
 ghost use Rattle.std.specs.Prelude.{◌≡◌, length};
 
-use libc::{STDERR_FILENO, STDIN_FILENO, STDOUT_FILENO};
+use full_read::read_full;
 use sheet::argument;
+use std::{env, io};
 
 // Room for a sheet and one byte more. The `ensures` gives the length, which lending the array needs.
 fn sheet_room() -> [u8; 65537]
@@ -22,28 +23,26 @@ fn text_room() -> [u8; 98304]
 }
 
 // Reads a sheet and prints its answer, with the words and the bytes skipped on a third line where they are asked for.
-fn answer(skipped: bool) {
+fn answer(rt: &(impl Input + Print), skipped: bool) -> io::Result<()> {
     let mut bytes = sheet_room();
-    let size = io::read_full(STDIN_FILENO, &mut bytes);
+    let size = read_full(&mut rt.reader(), &mut bytes)?;
     let mut text = text_room();
-    if skipped {
-        let length = sheet::answer_sheet_with_skipped(&bytes[..size], &mut text);
-        io::write_all(STDOUT_FILENO, &text[..length]);
+    let length = if skipped {
+        sheet::answer_sheet_with_skipped(&bytes[..size], &mut text)
     } else {
-        let length = sheet::answer_sheet(&bytes[..size], &mut text);
-        io::write_all(STDOUT_FILENO, &text[..length]);
-    }
+        sheet::answer_sheet(&bytes[..size], &mut text)
+    };
+    rt.write_all(&text[..length])
 }
 
-fn main() {
-    let count = os::arg_count();
-    let mut word = io::buffer();
-    let end = os::arg(1, &mut word);
-    if count < 2 {
-        answer(false);
-    } else if (count == 2) & argument::is_skipped(&word[..end]) {
-        answer(true);
+fn main(rt: HostRuntime) -> io::Result<()> {
+    let mut words = env::args(&rt)?.skip(1);
+    let Some(word) = words.next() else {
+        return answer(&rt, false);
+    };
+    if words.next().is_none() && argument::is_skipped(word.as_bytes()) {
+        answer(&rt, true)
     } else {
-        io::write_all(STDERR_FILENO, b"usage: keysheet [skipped] < SHEET\n");
+        eprintln!(rt; "usage: keysheet [skipped] < SHEET")
     }
 }

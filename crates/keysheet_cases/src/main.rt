@@ -4,8 +4,10 @@
 
 ghost use Rattle.std.specs.Prelude.{◌≡◌, length};
 
-use libc::STDOUT_FILENO;
+use full_read::read_file;
 use sheet::argument;
+use std::rt::Runtime;
+use std::{env, io};
 
 // Room for a sheet and one byte more. The `ensures` gives the length, which lending the array needs.
 fn sheet_room() -> [u8; 65537]
@@ -22,46 +24,35 @@ fn text_room() -> [u8; 98304]
 }
 
 // The name of a case, and the answer to its sheet, with the third line where it is asked for.
-fn print_case(path: &[u8], skipped: bool) {
-    io::write_all(STDOUT_FILENO, b"== ");
-    io::write_all(STDOUT_FILENO, path);
-    io::write_all(STDOUT_FILENO, b"\n");
-    let fd = os::open_read(path);
-    if fd < 0 {
-        os::fail(path);
-        return;
-    }
+fn print_case(rt: &impl Runtime, path: &str, skipped: bool) -> io::Result<()> {
+    println!(rt; "== {path}")?;
     let mut bytes = sheet_room();
-    let size = io::read_full(fd, &mut bytes);
-    libc::close(fd);
+    let Some(size) = read_file(rt, path, &mut bytes)? else {
+        return Ok(());
+    };
     let mut text = text_room();
-    if skipped {
-        let length = sheet::answer_sheet_with_skipped(&bytes[..size], &mut text);
-        io::write_all(STDOUT_FILENO, &text[..length]);
+    let length = if skipped {
+        sheet::answer_sheet_with_skipped(&bytes[..size], &mut text)
     } else {
-        let length = sheet::answer_sheet(&bytes[..size], &mut text);
-        io::write_all(STDOUT_FILENO, &text[..length]);
-    }
+        sheet::answer_sheet(&bytes[..size], &mut text)
+    };
+    rt.write_all(&text[..length])
 }
 
 // What an argument asks: the word `skipped` for the third line from here on, another for the case that it names. Whether the third line is asked
 // for after it is handed back.
-fn take_argument(i: usize, skipped: bool) -> bool {
-    let mut word = io::buffer();
-    let end = os::arg(i, &mut word);
-    if argument::is_skipped(&word[..end]) {
-        return true;
+fn take_argument(rt: &impl Runtime, word: &str, skipped: bool) -> io::Result<bool> {
+    if argument::is_skipped(word.as_bytes()) {
+        return Ok(true);
     }
-    print_case(&word[..end], skipped);
-    skipped
+    print_case(rt, word, skipped)?;
+    Ok(skipped)
 }
 
-fn main() {
-    let count = os::arg_count();
+fn main(rt: HostRuntime) -> io::Result<()> {
     let mut skipped = false;
-    let mut i = 1;
-    while i < count {
-        skipped = take_argument(i, skipped);
-        i += 1;
+    for word in env::args(&rt)?.skip(1) {
+        skipped = take_argument(&rt, word.as_str(), skipped)?;
     }
+    Ok(())
 }

@@ -1,4 +1,4 @@
-// Judges layer tables that are typed from a dump (02 [6]): on standard input, or in the files that the arguments name, where `-` is standard input and a line
+// Judges layer tables that are typed from a dump: on standard input, or in the files that the arguments name, where `-` is standard input and a line
 // with the name stands before each answer. It prints the number, the index, and which entry of which list they name. README.md has the format.
 #![tactic(auto)]
 
@@ -7,20 +7,23 @@ mod reading;
 mod reals;
 mod room;
 
+use full_read::{read_file, read_full};
 use layer_tables::check_layer_tables;
-use libc::{STDIN_FILENO, STDOUT_FILENO};
+use std::rt::Runtime;
+use std::{env, io};
 
 // Longest text in bytes.
 const MAX_TEXT: usize = 1048576;
 
 // Prints the verdict on the lists of a good text, which stand at the start of their rooms. No list is longer than its room, so that each is judged.
 fn judge(
+    rt: &impl Print,
     counts: &[usize; 6],
     support: &[u64; 1],
     endpoints: &[u64; 1024],
     heights: &[f64; 1024],
     curve: &[f64; 32768],
-) {
+) -> io::Result<()> {
     let support = support[0];
     let endpoints = &endpoints[..];
     let heights = &heights[..];
@@ -29,20 +32,20 @@ fn judge(
     let h = counts[3];
     let c = counts[4];
     if endpoints.len() < e {
-        return;
+        return Ok(());
     }
     if heights.len() < h {
-        return;
+        return Ok(());
     }
     if curve.len() < c {
-        return;
+        return Ok(());
     }
     let fault = check_layer_tables(support, &endpoints[0..e], &heights[0..h], &curve[0..c]);
-    print::verdict(fault.number, fault.index, counts, support);
+    print::verdict(rt, fault.number, fault.index, counts, support)
 }
 
 // Reads a text and prints the verdict on its tables, or which number of it is bad.
-fn answer(text: &[u8]) {
+fn answer(rt: &impl Print, text: &[u8]) -> io::Result<()> {
     let mut counts = [0usize; 6];
     let mut support = [0u64; 1];
     let mut endpoints = [0u64; 1024];
@@ -57,55 +60,52 @@ fn answer(text: &[u8]) {
         &mut curve,
     );
     if bad.line != 0 {
-        print::bad(bad.line, bad.position);
-        return;
+        return print::bad(rt, bad.line, bad.position);
     }
-    judge(&counts, &support, &endpoints, &heights, &curve);
+    judge(rt, &counts, &support, &endpoints, &heights, &curve)
 }
 
-// Answers the text of an open file. One byte more than a text may have is asked for, so that a longer one is noticed.
-fn answer_file(fd: i32) {
-    let mut bytes = room::text_room();
-    let size = io::read_full(fd, &mut bytes);
-    if MAX_TEXT < size {
-        io::write_all(STDOUT_FILENO, b"the input is longer than 1048576 bytes\n");
-        return;
+// Answers a text that was read. One byte more than a text may have is asked for, so that a longer one is noticed.
+fn answer_read(rt: &impl Print, text: &[u8]) -> io::Result<()> {
+    if MAX_TEXT < text.len() {
+        return println!(rt; "the input is longer than 1048576 bytes");
     }
-    answer(&bytes[..size]);
+    answer(rt, text)
+}
+
+// Answers the text on standard input.
+fn answer_input(rt: &(impl Input + Print)) -> io::Result<()> {
+    let mut bytes = room::text_room();
+    let size = read_full(&mut rt.reader(), &mut bytes)?;
+    answer_read(rt, &bytes[..size])
+}
+
+// Answers the text of a file, where it can be opened.
+fn answer_file(rt: &impl Runtime, path: &str) -> io::Result<()> {
+    let mut bytes = room::text_room();
+    let Some(size) = read_file(rt, path, &mut bytes)? else {
+        return Ok(());
+    };
+    answer_read(rt, &bytes[..size])
 }
 
 // Answers the file that an argument names, after a line with its name.
-fn answer_argument(i: usize) {
-    let mut buffer = io::buffer();
-    let length = os::arg(i, &mut buffer);
-    let path = &buffer[..length];
-    io::write_all(STDOUT_FILENO, b"== ");
-    io::write_all(STDOUT_FILENO, path);
-    io::write_all(STDOUT_FILENO, b"\n");
-    if path.len() == 1 {
-        if path[0] == b'-' {
-            answer_file(STDIN_FILENO);
-            return;
-        }
+fn answer_argument(rt: &impl Runtime, path: &str) -> io::Result<()> {
+    println!(rt; "== {path}")?;
+    if path == "-" {
+        answer_input(rt)
+    } else {
+        answer_file(rt, path)
     }
-    let fd = os::open_read(path);
-    if fd < 0 {
-        os::fail(path);
-        return;
-    }
-    answer_file(fd);
-    libc::close(fd);
 }
 
-fn main() {
-    let count = os::arg_count();
-    if count < 2 {
-        answer_file(STDIN_FILENO);
-        return;
+fn main(rt: HostRuntime) -> io::Result<()> {
+    let paths = env::args(&rt)?.skip(1);
+    if paths.len() == 0 {
+        return answer_input(&rt);
     }
-    let mut i = 1;
-    while i < count {
-        answer_argument(i);
-        i += 1;
+    for path in paths {
+        answer_argument(&rt, path.as_str())?;
     }
+    Ok(())
 }

@@ -2,7 +2,6 @@
 ghost use Rattle.std.specs.Prelude.{◌≤◌, length};
 
 use crate::reals::read_reals;
-use bytes::scan::find;
 use residue_text::number::ALL;
 use residue_text::numbers::{Numbers, read_numbers};
 
@@ -34,11 +33,16 @@ fn span_at(text: &[u8], at: usize, number: usize) -> Span
             next: size,
         };
     }
-    let end = find(text, at, size, b'\n');
-    if end == size {
-        return Span { end, next: end };
+    match text[at..].iter().position(|byte| *byte == b'\n') {
+        Some(k) => Span {
+            end: at + k,
+            next: at + k + 1,
+        },
+        None => Span {
+            end: size,
+            next: size,
+        },
     }
-    Span { end, next: end + 1 }
 }
 
 // Reads the numbers of a line into the room that it has.
@@ -70,18 +74,16 @@ pub(crate) fn read_text(
 ) -> Bad {
     let mut position: usize = 1;
     let mut at: usize = 0;
-    let mut line: usize = 1;
-    while line < 6 {
+    for line in 1..6 {
         let span = span_at(text, at, line);
         let end = span.end;
         let read = read_line(line, &text[at..end], support, endpoints, heights, curve);
-        position = std::num::wrapping_add_usize(position, read.count);
+        position = position.wrapping_add(read.count);
         if read.more | ((line == 1) & (read.count == 0)) {
             return Bad { line, position };
         }
         counts[line] = read.count;
         at = span.next;
-        line += 1;
     }
     Bad {
         line: 0,

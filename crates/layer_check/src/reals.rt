@@ -13,11 +13,11 @@ struct Reals {
 
 // The value of a digit, upper or lower case; 16 for a byte that is none.
 fn digit_of(byte: u8) -> u8 {
-    let decimal = std::num::wrapping_sub_u8(byte, b'0');
+    let decimal = byte.wrapping_sub(b'0');
     if decimal < 10 {
         return decimal;
     }
-    let letter = std::num::wrapping_sub_u8(byte | 32, b'a');
+    let letter = (byte | 32).wrapping_sub(b'a');
     if letter < 6 {
         return letter + 10;
     }
@@ -30,7 +30,7 @@ fn with_digit(line: Reals, byte: u8) -> Reals {
     let bits = line.bits % 0x1000_0000_0000_0000;
     Reals {
         count: line.count,
-        size: std::num::wrapping_add_usize(line.size, 1),
+        size: line.size.wrapping_add(1),
         bits: bits * 16 + (digit % 16) as u64,
         more: 15 < digit,
     }
@@ -77,16 +77,14 @@ pub(crate) fn read_reals(line: &[u8], room: &mut [f64]) -> Numbers {
         bits: 0,
         more: false,
     };
-    let mut i = 0;
-    while i < line.len() {
+    for byte in line {
         if read.more {
             return Numbers {
                 count: read.count,
                 more: true,
             };
         }
-        read = with_byte(read, line[i], room);
-        i += 1;
+        read = with_byte(read, *byte, room);
     }
     let last = with_space(read, room);
     Numbers {
