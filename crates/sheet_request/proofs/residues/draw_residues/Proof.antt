@@ -62,5 +62,5 @@ pub draw_residues_spec : {M : Type 1} → statement M
 draw_residues_spec =
     tie.close
     (tie.spec (λ c κs. search rules) (λ c κs. search rules) returns (λ c κs. search rules) (λ c κs. search rules) (λ c κs. search rules) returns-2
-    (λ c. search rules) (λ c. search rules) (λ c. search rules) (λ c. search rules) (λ c κs. search rules) (λ c κs. search rules) (λ c. search rules) returns-3
+    (λ c κs. search rules) (λ c κs. search rules) (λ c. search rules) returns-3
     (λ c. search rules) returns-4)

@@ -34,7 +34,7 @@ loop-again c =
       omega arith,
       simp length-set turn.invariant.1,
       made_more f a.output.now turn.output turn.i (pos 0) (to_z w64 (of_z w64 c.residue.result)) turn.invariant.2 (omega arith)
-          (to_z-of_z (sfits_of c.residue.type_inv) ∙ c.residue.ensures ∙ ap f read),
+          (to_z-of_z {w = w64} (sfits_of c.residue.type_inv) ∙ c.residue.ensures ∙ ap f read),
     )
 
 same_length : tie.Need-shape_of-output invariant-loop-i decreases-loop-i
