@@ -1,6 +1,6 @@
 -- Demand 3, whole: the record `Certificate` below is the claim, and the term `certificate` of proofs/Certificate is its proof. What it counts stands in
 -- the specs of `counts`: draw lists, which coefficient lists are inside a distribution, the formula. The rules stand in the specs of `distr`, and what the
--- contracts of the code promise stands in Contracts. The count of 02 [3], of byte strings, is a claim of the same record; it stands in Polynomials.
+-- contracts of the code promise stands in CallPromises. The count of 02 [3], of byte strings, is a claim of the same record; it stands in Polynomials.
 use Rattle.std.specs.Prelude.{ℕ, ◌/◌, ◌^◌, ◌≤◌, ◌<◌, ◌≡◌, ◌⊎◌, Bool, not, cond, List, ◌∷◌, T, length, drop, ℤ}
 use Rattle.distr.specs.declared.answer.Answer.{Answer}
 use Rattle.distr.specs.declared.secret_key_distr.SecretKeyDistr.{SecretKeyDistr}
@@ -27,7 +27,7 @@ use Rattle.error_sampler.specs.Sampler.{is_made as is_made_error, making as maki
 use Rattle.error_sampler.proofs.ErrorSampler.try_new.Reads as error-try-new
 use Rattle.error_sampler.proofs.ErrorSampler.sample_signed_to.Reads as error-sample-signed-to
 use Rattle.certificate.specs.Polynomials.{PolynomialsCounted}
-use Rattle.certificate.specs.Contracts.{SignedArguments, SignedCall, ChoiceArguments, BoundedChoice, CbdArguments, CbdCall}
+use Rattle.certificate.specs.CallPromises.{SignedArguments, SignedCall, ChoiceArguments, BoundedChoice, CbdArguments, CbdCall}
 
 -- ---- a request and its calls
 

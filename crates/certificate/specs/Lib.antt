@@ -1,4 +1,4 @@
 -- Demand 3, and the contracts that it is about.
 pub mod Polynomials
-pub mod Contracts
+pub mod CallPromises
 pub mod Certificate

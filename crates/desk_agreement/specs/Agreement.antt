@@ -1,6 +1,6 @@
 -- 02 [4]: "On all else the two entries give the same number, coefficients and place."
 use Rattle.std.specs.Prelude.{ℕ, ◌≡◌, List, length, get_or, ℤ, pos}
-use Rattle.std.specs.Borrow.{Bor}
+use Rattle.std.specs.Borrow.{Bor, MutBor}
 use Rattle.distr.specs.declared.answer.Answer.{Answer}
 use Rattle.distr.specs.Answers.{sums, reported}
 use Rattle.distr.specs.Draw.{outcome}
@@ -26,7 +26,7 @@ MeetsDesk kind a b modulus words place output answer = answer ≡ desk_draw kind
 
 -- The arguments of `draw_question`: kind, a, b, modulus, output, words, place. Its promise is what `MeetsQuestion` says.
 abbrev pub QuestionArguments : Type 0
-QuestionArguments = ℕ × (ℕ × (ℕ × (ℕ × (Bor (List ℤ) × (Bor (List ℕ) × (ℕ × Unit {0}))))))
+QuestionArguments = ℕ × (ℕ × (ℕ × (ℕ × (MutBor (List ℤ) × (Bor (List ℕ) × (ℕ × Unit {0}))))))
 
 abbrev pub QuestionCall : QuestionArguments → Answer → QuestionArguments → Type 0
 QuestionCall (kind, (a, (b, (modulus, (output, (words, (place, end))))))) answer (_, (_, (_, (_, (written, _))))) =
@@ -34,7 +34,7 @@ QuestionCall (kind, (a, (b, (modulus, (output, (words, (place, end))))))) answer
 
 -- The arguments of `desk_draw`: kind, a, b, modulus, words, output, place, skipped words, skipped bytes. Its promise is what `MeetsDesk` says.
 abbrev pub DeskArguments : Type 0
-DeskArguments = ℕ × (ℕ × (ℕ × (ℕ × (Bor (List ℕ) × (Bor (List ℕ) × (Bor ℕ × (Bor ℕ × (Bor ℕ × Unit {0}))))))))
+DeskArguments = ℕ × (ℕ × (ℕ × (ℕ × (Bor (List ℕ) × (MutBor (List ℕ) × (MutBor ℕ × (MutBor ℕ × (MutBor ℕ × Unit {0}))))))))
 
 abbrev pub DeskCall : DeskArguments → ℕ → DeskArguments → Type 0
 DeskCall (kind, (a, (b, (modulus, (words, (output, (place, rest))))))) number (_, (_, (_, (_, (_, (written, (moved, (skipped_words, (skipped_bytes, end))))))))) =

@@ -1,6 +1,6 @@
 -- 02 [5]: "The table draw and the division draw agree for every list of words, refusals included."
 use Rattle.std.specs.Prelude.{ℕ, ◌≡◌, List, length, drop, ℤ}
-use Rattle.std.specs.Borrow.{Bor}
+use Rattle.std.specs.Borrow.{Bor, MutBor}
 use Rattle.distr.specs.declared.answer.Answer.{Answer}
 use Rattle.distr.specs.declared.secret_key_distr.SecretKeyDistr.TheVariants.{UniformTernary}
 use Rattle.distr.specs.Answers.{sums, reported}
@@ -28,14 +28,14 @@ MeetsResidues modulus words place out answer after = Promises (encoded_at_once (
 
 -- The arguments of both signed draws: output, words, place. The promise of either is what `MeetsSigned` says.
 abbrev pub SignedArguments : Type 0
-SignedArguments = Bor (List ℤ) × (Bor (List ℕ) × (ℕ × Unit {0}))
+SignedArguments = MutBor (List ℤ) × (Bor (List ℕ) × (ℕ × Unit {0}))
 
 abbrev pub SignedCall : SignedArguments → Answer → SignedArguments → Type 0
 SignedCall (output, (words, (place, end))) answer (written, _) = MeetsSigned words.now place output.now answer written.now
 
 -- The arguments of both draws of residues: output, modulus, words, place. The promise of either is what `MeetsResidues` says.
 abbrev pub ResidueArguments : Type 0
-ResidueArguments = Bor (List ℕ) × (ℕ × (Bor (List ℕ) × (ℕ × Unit {0})))
+ResidueArguments = MutBor (List ℕ) × (ℕ × (Bor (List ℕ) × (ℕ × Unit {0})))
 
 abbrev pub ResidueCall : ResidueArguments → Answer → ResidueArguments → Type 0
 ResidueCall (output, (modulus, (words, (place, end)))) answer (written, _) = MeetsResidues modulus words.now place output.now answer written.now

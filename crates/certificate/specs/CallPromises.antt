@@ -1,6 +1,6 @@
 -- The contracts of the code that demand 3 is about: what a signed draw, a bounded choice and a polynomial from bytes promise of a call. Certificate ties each to its function.
 use Rattle.std.specs.Prelude.{ℕ, ◌≡◌, Bool, List, length, drop, ℤ, Float}
-use Rattle.std.specs.Borrow.{Bor}
+use Rattle.std.specs.Borrow.{Bor, MutBor}
 use Rattle.distr.specs.declared.answer.Answer.{Answer}
 use Rattle.distr.specs.Words.{choose}
 use Rattle.distr.specs.Skipped.{passed_over}
@@ -15,7 +15,7 @@ use Rattle.certificate.specs.Polynomials.{MeetsCbd}
 -- The arguments of a `sample_signed_to`: self, output, bounds, endpoints, heights, curve, words, place.
 abbrev pub SignedArguments : Type 0 → Type 0
 SignedArguments S =
-    S × (Bor (List ℤ) × (Bor (List ℕ) × (Bor (List ℕ) × (Bor (List Float) × (Bor (List Float) × (Bor (List ℕ) × (ℕ × Unit {0})))))))
+    S × (MutBor (List ℤ) × (Bor (List ℕ) × (Bor (List ℕ) × (Bor (List Float) × (Bor (List Float) × (Bor (List ℕ) × (ℕ × Unit {0})))))))
 
 -- Its promise: what the call does is what `Meets` says, and the sums that it reports are those of 02 [1].
 abbrev pub SignedCall : {S : Type 0} → (S → Bool) → (S → Distr) → SignedArguments S → Answer → SignedArguments S → Type 0
@@ -34,7 +34,7 @@ BoundedChoice (words, (place, (k, end))) answer after =
 
 -- The arguments of `sample_poly_cbd`: output, eta, bytes. Its promise is what `MeetsCbd` says.
 abbrev pub CbdArguments : Type 0
-CbdArguments = Bor (List ℕ) × (ℕ × (Bor (List ℕ) × Unit {0}))
+CbdArguments = MutBor (List ℕ) × (ℕ × (Bor (List ℕ) × Unit {0}))
 
 abbrev pub CbdCall : CbdArguments → ℕ → CbdArguments → Type 0
 CbdCall (output, (eta, (bytes, end))) number (written, _) = MeetsCbd eta bytes.now output.now number written.now
