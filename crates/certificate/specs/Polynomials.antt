@@ -7,7 +7,7 @@ use Rattle.counts.specs.DrawLists.{Exactly, byte_string}
 use Rattle.counts.specs.Inside.{inside_polynomial}
 use Rattle.counts.specs.Formula.{polynomial_formula}
 
--- What a call of `sample_poly_cbd` does: its number, and what its output holds then. The contract says this (Contracts: `CbdCall`).
+-- What a call of `sample_poly_cbd` does: its number, and what its output holds then. The contract says this (CallPromises: `CbdCall`).
 abbrev pub MeetsCbd : ℕ → List ℕ → List ℕ → ℕ → List ℕ → Type 0
 MeetsCbd eta B out number written = (number, written) ≡ sample_poly_cbd eta B out
 

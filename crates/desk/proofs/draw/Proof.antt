@@ -13,48 +13,37 @@ use Rattle.desk.proofs.draw.Statement.{statement}
 use Rattle.desk.proofs.draw.Tie as tie
 
 -- the room has n coefficients, all zeros
-sized : (c : tie.After-coefficients_room-room) → let n = length c.before.before.before.args.output.now / 8 in n ≡ length (take n c.coefficients_room-room.result)
+sized : (c : tie.After-coefficients_room-room) → let n = length c.args.output.now / 8 in n ≡ length (take n c.coefficients_room-room.result)
 sized c =
-    let start = c.before.before.before in
-    let n = length start.args.output.now / 8 in
+    let n = length c.args.output.now / 8 in
     let whole : length c.coefficients_room-room.result ≡ 4096 = ap length c.coefficients_room-room.ensures ∙ length-replicate 4096 (pos 0) in
-    omega (arith, length-take-le n c.coefficients_room-room.result (omega (arith, start.requires.0, whole)))
+    omega (arith, length-take-le n c.coefficients_room-room.result (omega (arith, c.requires.0, whole)))
 
-zeros : (c : tie.After-coefficients_room-room) → let n = length c.before.before.before.args.output.now / 8 in
+zeros : (c : tie.After-coefficients_room-room) → let n = length c.args.output.now / 8 in
     take n c.coefficients_room-room.result ≡ replicate n (pos 0)
 zeros c =
-    let start = c.before.before.before in
-    let n = length start.args.output.now / 8 in
-    ap (take n) c.coefficients_room-room.ensures ∙ take-replicate n 4096 (pos 0) start.requires.0
+    let n = length c.args.output.now / 8 in
+    ap (take n) c.coefficients_room-room.ensures ∙ take-replicate n 4096 (pos 0) c.requires.0
 
 returns : tie.Need-returns-then-number
 returns c =
-    let written = c.before.before.before in
-    let test = written.before.before.before in
-    let drawn = test.before.before in
-    let room = drawn.before.before.before in
-    let start = room.before.before.before in
-    let a = start.args in
+    let a = c.args in
     let n = length a.output.now / 8 in
-    let many : length a.output.now ≡ 8 * length drawn.draw_question-answer.new.1.1.1.1.0 =
-    omega (arith, start.requires.1, sized room, test.before.coefficients-1.given) in
+    let many : length a.output.now ≡ 8 * length c.draw_question-answer.new.output =
+    omega (arith, c.requires.1, sized c.before.before.before.before.before.before.before.before.before.before, c.coefficients-1.given) in
     answered a.kind a.a a.b a.modulus a.words.now a.place a.output.now
-    (rw (zeros room) at drawn.draw_question-answer.ensures.0) (rw (← sized room) at drawn.draw_question-answer.ensures.1)
-    (rw test.if-number.true (written.write_coefficients.ensures ∙ rw (eq-eqb _ _ many)))
+    (rw (zeros c.before.before.before.before.before.before.before.before.before.before) at c.draw_question-answer.ensures.0) (rw (← sized c.before.before.before.before.before.before.before.before.before.before) at c.draw_question-answer.ensures.1)
+    (rw c.if-number.true (c.write_coefficients.ensures ∙ rw (eq-eqb _ _ many)))
 
 returns-2 : tie.Need-returns-else-number
 returns-2 c =
-    let test = c.before in
-    let drawn = test.before.before in
-    let room = drawn.before.before.before in
-    let start = room.before.before.before in
-    let a = start.args in
+    let a = c.args in
     answered a.kind a.a a.b a.modulus a.words.now a.place a.output.now
-    (rw (zeros room) at drawn.draw_question-answer.ensures.0) (rw (← sized room) at drawn.draw_question-answer.ensures.1)
-    (rw test.if-number.false refl)
+    (rw (zeros c.before.before.before.before.before.before) at c.draw_question-answer.ensures.0) (rw (← sized c.before.before.before.before.before.before) at c.draw_question-answer.ensures.1)
+    (rw c.if-number.false refl)
 
 pub draw_spec : {M : Type 1} → statement M
 draw_spec =
     tie.close
-    (tie.spec (λ c κs. search rules) (λ c. omega (arith, c.before.before.before.requires.0)) (λ c. sized c.before) (λ c κs. search rules) (λ c κs. search rules)
+    (tie.spec (λ c κs. search rules) (λ c. omega (arith, c.requires.0)) (λ c. sized c.before) (λ c κs. search rules) (λ c κs. search rules)
     (λ c. search rules) returns returns-2)

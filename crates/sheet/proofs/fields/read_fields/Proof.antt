@@ -12,13 +12,12 @@ use Rattle.sheet.proofs.fields.read_fields.Tie as tie
 returns : tie.Need-returns
 unfolding fields_of words_at
 returns c =
-    let read = c.before.read_words in
-    let start = c.before.before.before.before.before in
-    rw (part_read start.args.sheet.now 0 8 start.requires (replicate 8 0) read.new.0 refl read.ensures)
+    let read = c.read_words in
+    rw (part_read c.args.sheet.now 0 8 c.requires (replicate 8 0) read.new.0 refl read.ensures)
 
 pub read_fields_spec : {M : Type 1} → statement M
 read_fields_spec =
     tie.close
-    (tie.spec (λ c. search rules) (λ c. let start = c.before.before.before in prefix_length 32 start.args.sheet.now start.requires)
+    (tie.spec (λ c. search rules) (λ c. prefix_length 32 c.args.sheet.now c.requires)
     (λ c κs. search rules) (λ c. search rules) (λ c. search rules) (λ c. search rules) (λ c. search rules) (λ c. search rules) (λ c. search rules)
     (λ c. search rules) (λ c. search rules) returns)

@@ -11,31 +11,23 @@ use Rattle.sheet.proofs.reply.draw.Statement.{statement}
 use Rattle.sheet.proofs.reply.draw.Tie as tie
 
 -- the output has n elements
-sized : (c : tie.After-coefficients_room-room) → let n = c.before.before.before.before.args.f.n in
+sized : (c : tie.After-coefficients_room-room) → let n = c.args.f.n in
     n ≡ length (take n c.coefficients_room-room.result)
 sized c =
-    let start = c.before.before.before.before in
-    prefix_length start.args.f.n c.coefficients_room-room.result
-    (omega (arith, start.requires.0, ap length c.coefficients_room-room.ensures, length-replicate 4096 (pos 0)))
+    prefix_length c.args.f.n c.coefficients_room-room.result
+    (omega (arith, c.requires.0, ap length c.coefficients_room-room.ensures, length-replicate 4096 (pos 0)))
 
 copy-patterns-requires : tie.Need-copy_patterns-requires
 copy-patterns-requires c κs =
-    let drawn = c.before.before in
-    let room = drawn.before.before.before.before in
-    let start = room.before.before.before.before in
-    omega (arith, start.requires.2, drawn.output-1.given, sized room)
+    omega (arith, c.requires.2, c.output-1.given, sized c.before.before.before.before)
 
 returns : tie.Need-returns
 returns c =
-    let copied = c.before.before.before in
-    let drawn = copied.before.before.before.before in
-    let room = drawn.before.before.before in
-    let start = room.before.before.before.before in
-    let f = start.args.f in
-    let ws = start.args.words.now in
-    let zeros = ap (take f.n) room.coefficients_room-room.ensures ∙ take-replicate f.n 4096 (pos 0) start.requires.0 in
-    let same = drawn_fields f ws start.requires.1 drawn.draw_question-drawn.result copied.copy_patterns.ensures drawn.draw_question-drawn.ensures.0 zeros in
-    (same, skipped-drawn f ws drawn.draw_question-drawn.result _ same (sym (sized room)) drawn.draw_question-drawn.ensures.1)
+    let f = c.args.f in
+    let ws = c.args.words.now in
+    let zeros = ap (take f.n) c.coefficients_room-room.ensures ∙ take-replicate f.n 4096 (pos 0) c.requires.0 in
+    let same = drawn_fields f ws c.requires.1 c.draw_question-drawn.result c.copy_patterns.ensures c.draw_question-drawn.ensures.0 zeros in
+    (same, skipped-drawn f ws c.draw_question-drawn.result _ same (sym (sized c.before.before.before)) c.draw_question-drawn.ensures.1)
 
 pub draw_spec : {M : Type 1} → statement M
 draw_spec =

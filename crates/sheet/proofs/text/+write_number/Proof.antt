@@ -47,7 +47,7 @@ returns-2 t c =
     let value = test.before.before.args.value in
     let called = c.before.before.write_number-end in
     rw (decimal_more value test.if-value-lt10.false)
-    (written_then called.ensures (written_byte called.new.0 called.result (last_digit value) (slice-write-text-2 t c)))
+    (written_then called.ensures (written_byte called.new.text called.result (last_digit value) (slice-write-text-2 t c)))
 
 pub +write_number_spec : {M : Type 1} → statement M
 +write_number_spec =

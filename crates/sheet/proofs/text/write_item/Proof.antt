@@ -11,41 +11,31 @@ use Rattle.sheet.proofs.text.write_item.Tie as tie
 
 write-byte-requires : tie.Need-write_byte-after_space-requires
 write-byte-requires c κs =
-    let start = c.before.before in
-    omega (arith, start.requires, item_length start.args.later start.args.signed start.args.bits)
+    omega (arith, c.requires, item_length c.args.later c.args.signed c.args.bits)
 
 write-byte-requires-2 : tie.Need-write_byte-after_sign-requires
 write-byte-requires-2 c κs =
-    let space = c.before.before.before in
-    let start = space.before.before.before in
-    let w = space.write_byte-after_space.ensures in
-    omega (arith, start.requires, item_length start.args.later start.args.signed start.args.bits, w.place, written-length w)
+    let w = c.write_byte-after_space.ensures in
+    omega (arith, c.requires, item_length c.args.later c.args.signed c.args.bits, w.place, written-length w)
 
 write-number-requires : tie.Need-write_number-requires
 write-number-requires c κs =
-    let sign = c.before.before.before.before in
-    let space = sign.before.before.before.before in
-    let start = space.before.before.before in
-    let w = written_then space.write_byte-after_space.ensures sign.write_byte-after_sign.ensures in
+    let w = written_then c.write_byte-after_space.ensures c.write_byte-after_sign.ensures in
     omega (
       arith,
-      start.requires,
-      item_length start.args.later start.args.signed start.args.bits,
-      space.write_byte-after_space.ensures.place,
-      sign.write_byte-after_sign.ensures.place,
+      c.requires,
+      item_length c.args.later c.args.signed c.args.bits,
+      c.write_byte-after_space.ensures.place,
+      c.write_byte-after_sign.ensures.place,
       written-length w,
-      ap (λ n. length (decimal n)) c.before.type_size.ensures,
+      ap (λ n. length (decimal n)) c.size_of-size.ensures,
     )
 
 returns : tie.Need-returns
 returns c =
-    let size = c.before.before.before.before in
-    let sign = size.before.before.before in
-    let space = sign.before.before.before.before in
-    let start = space.before.before.before in
     rw value-text
-    (written_then space.write_byte-after_space.ensures
-    (written_then sign.write_byte-after_sign.ensures (rw size.type_size.ensures at c.before.before.write_number.ensures)))
+    (written_then c.write_byte-after_space.ensures
+    (written_then c.write_byte-after_sign.ensures (rw c.size_of-size.ensures at c.write_number.ensures)))
 
 pub write_item_spec : {M : Type 1} → statement M
 write_item_spec =
