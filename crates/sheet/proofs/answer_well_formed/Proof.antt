@@ -10,8 +10,8 @@ use Rattle.sheet.proofs.Answers.{prefix_length, sheet_text_lem}
 use Rattle.sheet.proofs.answer_well_formed.Statement.{statement}
 use Rattle.sheet.proofs.answer_well_formed.Tie as tie
 
-good : (c : tie.After-read_fields-f) → WellFormed c.before.before.before.args.sheet.now c.read_fields-f.result
-good c = well_formed _ c.read_fields-f.result c.read_fields-f.ensures c.before.before.before.requires.1
+good : (c : tie.After-read_fields-f) → WellFormed c.args.sheet.now c.read_fields-f.result
+good c = well_formed _ c.read_fields-f.result c.read_fields-f.ensures c.requires.1
 
 -- the words are as many as the fields say
 sized : (c : tie.After-words_room-room) → let n = c.before.before.before.read_fields-f.result.count in n ≡ length (take n c.words_room-room.result)
@@ -21,23 +21,17 @@ sized c =
 
 reply-requires : tie.Need-reply-requires
 reply-requires c κs =
-    let fields = c.before.before.before.before.before.before.before.before.before.before.before in
-    (fields.before.before.before.requires.0, (good fields).few-coefficients, (good fields).known)
+    let fields = c.before.before.before.before.before.before.before.before.before.before in
+    (c.requires.0, (good fields).few-coefficients, (good fields).known)
 
 returns : tie.Need-returns
 returns c =
-    let reply = c.before.before.before in
-    let words = reply.before.before.before.before.before in
-    let room = words.before.before.before.before in
-    let fields = room.before.before.before in
-    let start = fields.before.before.before in
-    let sheet = start.args.sheet.now in
-    let f = fields.read_fields-f.result in
+    let sheet = c.args.sheet.now in
+    let f = c.read_fields-f.result in
     written_same
-    (sheet_text_lem start.args.skipped sheet f _ fields.read_fields-f.ensures start.requires.1
-    (part_read sheet f.offset f.count (good fields).inside (take f.count room.words_room-room.result) _ (sym (sized room))
-    words.read_words.ensures))
-    reply.reply.ensures
+    (sheet_text_lem c.args.skipped sheet f _ c.read_fields-f.ensures c.requires.1
+    (part_read sheet f.offset f.count (good c.before.before.before.before.before.before.before.before.before.before.before.before.before.before).inside (take f.count c.words_room-room.result) _ (sym (sized c.before.before.before.before.before.before.before.before.before.before.before)) c.read_words.ensures))
+    c.reply.ensures
 
 pub answer_well_formed_spec : {M : Type 1} → statement M
 answer_well_formed_spec =

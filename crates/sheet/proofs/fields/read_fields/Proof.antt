@@ -13,7 +13,7 @@ returns : tie.Need-returns
 unfolding fields_of words_at
 returns c =
     let read = c.read_words in
-    rw (part_read c.args.sheet.now 0 8 c.requires (replicate 8 0) read.new.0 refl read.ensures)
+    rw (part_read c.args.sheet.now 0 8 c.requires (replicate 8 0) read.new.words refl read.ensures)
 
 pub read_fields_spec : {M : Type 1} → statement M
 read_fields_spec =

@@ -19,7 +19,7 @@ sized c =
 
 copy-patterns-requires : tie.Need-copy_patterns-requires
 copy-patterns-requires c κs =
-    omega (arith, c.requires.2, c.output-1.given, sized c.before.before.before.before)
+    omega (arith, c.requires.2, c.output-1.given, sized c.before.before.before.before.before)
 
 returns : tie.Need-returns
 returns c =
@@ -27,7 +27,7 @@ returns c =
     let ws = c.args.words.now in
     let zeros = ap (take f.n) c.coefficients_room-room.ensures ∙ take-replicate f.n 4096 (pos 0) c.requires.0 in
     let same = drawn_fields f ws c.requires.1 c.draw_question-drawn.result c.copy_patterns.ensures c.draw_question-drawn.ensures.0 zeros in
-    (same, skipped-drawn f ws c.draw_question-drawn.result _ same (sym (sized c.before.before.before)) c.draw_question-drawn.ensures.1)
+    (same, skipped-drawn f ws c.draw_question-drawn.result _ same (sym (sized c.before.before.before.before.before.before.before.before.before)) c.draw_question-drawn.ensures.1)
 
 pub draw_spec : {M : Type 1} → statement M
 draw_spec =

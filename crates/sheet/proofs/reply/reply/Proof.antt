@@ -11,53 +11,27 @@ use Rattle.sheet.proofs.reply.reply.Tie as tie
 -- there are n values
 sized : (c : tie.After-values_room-room) → let n = c.before.before.before.before.args.f.n in n ≡ length (take n c.values_room-room.result)
 sized c =
-    let start = c.before.before.before.before in
-    prefix_length start.args.f.n c.values_room-room.result
-    (omega (arith, start.requires.1, c.values_room-room.ensures))
+    prefix_length c.args.f.n c.values_room-room.result (omega (arith, c.requires.1, c.values_room-room.ensures))
 
 draw-requires : tie.Need-draw-drawn-requires
-draw-requires c κs =
-    let room = c.before.before in
-    let start = room.before.before.before.before in
-    (start.requires.1, start.requires.2, sym (sized room))
+draw-requires c κs = (c.requires.1, c.requires.2, sym (sized c.before.before))
 
 returns : tie.Need-returns-then-number-ne0
 returns c =
-    let test = c.before.before.before.before.before in
-    let drawn = test.before.before.before in
-    let start = drawn.before.before.before.before.before.before.before in
-    written_same
-    (refused-text start.args.f start.args.words.now start.args.skipped drawn.draw-drawn.result _ drawn.draw-drawn.ensures.0 test.if-number-ne0.true)
-    c.before.before.write_refusal.ensures
+    written_same (refused-text c.args.f c.args.words.now c.args.skipped c.draw-drawn.result _ c.draw-drawn.ensures.0 c.if-number-ne0.true)
+    c.write_refusal.ensures
 
 write-success-requires : tie.Need-write_success-end-requires
-write-success-requires c κs =
-    let values = c.before.before.before.before.values in
-    let drawn = c.before.before.before.before.before in
-    let room = drawn.before.before.before in
-    let start = room.before.before.before.before in
-    (start.requires.0, omega (arith, start.requires.1, values.given, sized room))
+write-success-requires c κs = (c.requires.0, omega (arith, c.requires.1, c.values-1.given, sized c.before.before.before.before.before.before.before))
 
 write-skipped-requires : tie.Need-write_skipped-requires
 write-skipped-requires c κs =
-    let success = c.before.before.before.before in
-    let drawn = success.before.before.before.before.before.before in
-    let room = drawn.before.before.before in
-    let start = room.before.before.before.before in
-    let sized-values = success.before.before.before.before.before.values-1.given in
-    omega (arith, start.requires.0, start.requires.1, sized-values, sized room, written-length success.write_success-end.ensures.0, success.write_success-end.ensures.1)
+    omega (arith, c.requires.0, c.requires.1, c.values-1.given, sized c.before.before.before.before.before.before.before.before.before.before.before.before, written-length c.write_success-end.ensures.0, c.write_success-end.ensures.1)
 
 returns-2 : tie.Need-returns
 returns-2 c =
-    let third = c.before.before in
-    let success = third.before.before.before.before.before in
-    let test = success.before.before.before in
-    let drawn = test.before.before.before in
-    let room = drawn.before.before.before in
-    let start = room.before.before.before.before in
-    success-written start.args.f start.args.words.now start.args.skipped drawn.draw-drawn.result _ drawn.draw-drawn.ensures.0 test.if-number-ne0.false
-    (omega (arith, test.before.before.values-1.given, sized room)) drawn.draw-drawn.ensures.1 success.write_success-end.ensures.0
-    third.write_skipped.ensures
+    success-written c.args.f c.args.words.now c.args.skipped c.draw-drawn.result _ c.draw-drawn.ensures.0 c.if-number-ne0.false
+    (omega (arith, c.values-1.given, sized c.before.before.before.before.before.before.before.before.before.before.before.before.before.before.before)) c.draw-drawn.ensures.1 c.write_success-end.ensures.0 c.write_skipped.ensures
 
 pub reply_spec : {M : Type 1} → statement M
 reply_spec =
