@@ -12,6 +12,7 @@ pub mod wide_words;
 
 // What refuses a draw of n coefficients from `place` in `count` words: 22 past the end of the words, 6 too long, or the draw's own number
 // of a length, a weight or a table, 0 where that is good.
+#[tactic(auto, unfolding(distr::specs::Numbers::first_of))]
 pub fn draw_number(count: usize, place: usize, n: usize, own: u32) -> u32
     ensures { result ≡ first_of (past_end count place ∷ too_long n ∷ own ∷ []) }
 {
