@@ -40,10 +40,8 @@ pub(crate) fn uniform_ternary(
 // The endpoints 0, 2, 4, .. of 128 layers up to 256.
 fn endpoints() -> [u64; 129] {
     let mut endpoints = [0u64; 129];
-    let mut i = 0;
-    while i < 129 {
+    for i in 0..129 {
         endpoints[i] = i as u64 * 2;
-        i += 1;
     }
     endpoints
 }
@@ -51,10 +49,8 @@ fn endpoints() -> [u64; 129] {
 // The heights 1, 127/128, .. down to 0.
 fn heights() -> [f64; 129] {
     let mut heights = [0.0; 129];
-    let mut i = 0;
-    while i < 129 {
+    for i in 0..129 {
         heights[i] = (128 - i as u32) as f64 / 128.0;
-        i += 1;
     }
     heights
 }
