@@ -6,7 +6,7 @@ mod compare;
 mod draws;
 mod print;
 mod tally;
-mod words;
+mod word_lists;
 
 use std::io;
 
@@ -48,8 +48,8 @@ fn lists(rt: &impl Print, kind: u32, words: &[u32]) -> io::Result<()> {
 
 // Each kind of list.
 fn main(rt: HostRuntime) -> io::Result<()> {
-    lists(&rt, 0, &words::of_kind(0))?;
-    lists(&rt, 1, &words::of_kind(1))?;
-    lists(&rt, 2, &words::of_kind(2))?;
-    lists(&rt, 3, &words::of_kind(3))
+    lists(&rt, 0, &word_lists::of_kind(0))?;
+    lists(&rt, 1, &word_lists::of_kind(1))?;
+    lists(&rt, 2, &word_lists::of_kind(2))?;
+    lists(&rt, 3, &word_lists::of_kind(3))
 }
