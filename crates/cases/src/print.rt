@@ -1,58 +1,64 @@
 // Lines on standard output.
 use distr::answer::Answer;
 use gaussian_core::encode::magnitude;
-use libc::STDOUT_FILENO;
+use std::io;
 
 // The label and two numbers.
-pub(crate) fn head(label: &[u8], number: u32, second: u64) {
-    io::write_all(STDOUT_FILENO, label);
-    io::write_all(STDOUT_FILENO, b": ");
-    io::print_decimal(STDOUT_FILENO, number as u64);
-    io::write_all(STDOUT_FILENO, b" ");
-    io::print_decimal(STDOUT_FILENO, second);
+pub(crate) fn head(rt: &impl Print, label: &[u8], number: u32, second: u64) -> io::Result<()> {
+    rt.write_all(label)?;
+    print!(rt; ": {number} {second}")
 }
 
 // The end of a line.
-pub(crate) fn end() {
-    io::write_all(STDOUT_FILENO, b"\n");
+pub(crate) fn end(rt: &impl Print) -> io::Result<()> {
+    print!(rt; "\n")
 }
 
 // A space and a number.
-pub(crate) fn unsigned(value: u64) {
-    io::write_all(STDOUT_FILENO, b" ");
-    io::print_decimal(STDOUT_FILENO, value);
+pub(crate) fn unsigned(rt: &impl Print, value: u64) -> io::Result<()> {
+    print!(rt; " {value}")
 }
 
 // A space and a signed number.
-fn signed(value: i64) {
+fn signed(rt: &impl Print, value: i64) -> io::Result<()> {
     if value < 0 {
-        io::write_all(STDOUT_FILENO, b" -");
+        print!(rt; " -")?;
     } else {
-        io::write_all(STDOUT_FILENO, b" ");
+        print!(rt; " ")?;
     }
-    io::print_decimal(STDOUT_FILENO, magnitude(value));
+    let above = magnitude(value);
+    print!(rt; "{above}")
 }
 
 // The rest of a line: signed numbers.
-fn coefficients(values: &[i64]) {
-    let mut i = 0;
-    while i < values.len() {
-        signed(values[i]);
-        i += 1;
+fn coefficients(rt: &impl Print, values: &[i64]) -> io::Result<()> {
+    for value in values {
+        signed(rt, *value)?;
     }
-    end();
+    end(rt)
 }
 
 // A whole line of a signed draw.
-pub(crate) fn line(label: &[u8], number: u32, place: usize, values: &[i64]) {
-    head(label, number, place as u64);
-    coefficients(values);
+pub(crate) fn line(
+    rt: &impl Print,
+    label: &[u8],
+    number: u32,
+    place: usize,
+    values: &[i64],
+) -> io::Result<()> {
+    head(rt, label, number, place as u64)?;
+    coefficients(rt, values)
 }
 
 // A whole line of a signed draw, with the words and the bytes that it skipped before its values.
-pub(crate) fn line_with_skipped(label: &[u8], answer: Answer, values: &[i64]) {
-    head(label, answer.number, answer.place as u64);
-    unsigned(answer.skipped_words);
-    unsigned(answer.skipped_bytes);
-    coefficients(values);
+pub(crate) fn line_with_skipped(
+    rt: &impl Print,
+    label: &[u8],
+    answer: Answer,
+    values: &[i64],
+) -> io::Result<()> {
+    head(rt, label, answer.number, answer.place as u64)?;
+    unsigned(rt, answer.skipped_words)?;
+    unsigned(rt, answer.skipped_bytes)?;
+    coefficients(rt, values)
 }

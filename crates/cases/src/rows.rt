@@ -1,7 +1,7 @@
 // The row of one modulus of a CRT buffer: the part that is handed back, and the whole buffer after the row was written to in place.
 use crate::print;
 use crt::{crt_row, crt_row_range};
-use libc::STDOUT_FILENO;
+use std::io;
 
 // Writes 8 to a row's last element and 7 to its first.
 fn mark(output: &mut [u64], coefficient_count: usize, moduli_count: usize, i: usize) {
@@ -16,33 +16,44 @@ fn mark(output: &mut [u64], coefficient_count: usize, moduli_count: usize, i: us
 }
 
 // The label, the length of a part, and its first element and its last if it has any.
-fn part_of(label: &[u8], part: &[u64]) {
-    io::write_all(STDOUT_FILENO, label);
-    io::write_all(STDOUT_FILENO, b":");
+fn part_of(rt: &impl Print, label: &[u8], part: &[u64]) -> io::Result<()> {
     let n = part.len();
-    print::unsigned(n as u64);
+    rt.write_all(label)?;
+    print!(rt; ":")?;
+    print::unsigned(rt, n as u64)?;
     if 0 < n {
-        print::unsigned(part[0]);
-        print::unsigned(part[n - 1]);
+        print::unsigned(rt, part[0])?;
+        print::unsigned(rt, part[n - 1])?;
     }
+    Ok(())
 }
 
 // The rest of the line: the whole buffer.
-fn whole(buffer: &[u64; 6]) {
-    io::write_all(STDOUT_FILENO, b" of");
-    print::unsigned(buffer[0]);
-    print::unsigned(buffer[1]);
-    print::unsigned(buffer[2]);
-    print::unsigned(buffer[3]);
-    print::unsigned(buffer[4]);
-    print::unsigned(buffer[5]);
-    print::end();
+fn whole(rt: &impl Print, buffer: &[u64; 6]) -> io::Result<()> {
+    print!(rt; " of")?;
+    print::unsigned(rt, buffer[0])?;
+    print::unsigned(rt, buffer[1])?;
+    print::unsigned(rt, buffer[2])?;
+    print::unsigned(rt, buffer[3])?;
+    print::unsigned(rt, buffer[4])?;
+    print::unsigned(rt, buffer[5])?;
+    print::end(rt)
 }
 
 // Takes row i of a buffer of two rows of three, then writes to that row in place.
-pub(crate) fn row(label: &[u8], coefficient_count: usize, moduli_count: usize, i: usize) {
+pub(crate) fn row(
+    rt: &impl Print,
+    label: &[u8],
+    coefficient_count: usize,
+    moduli_count: usize,
+    i: usize,
+) -> io::Result<()> {
     let mut buffer = [10u64, 11, 12, 20, 21, 22];
-    part_of(label, crt_row(&buffer, coefficient_count, moduli_count, i));
+    part_of(
+        rt,
+        label,
+        crt_row(&buffer, coefficient_count, moduli_count, i),
+    )?;
     mark(&mut buffer, coefficient_count, moduli_count, i);
-    whole(&buffer);
+    whole(rt, &buffer)
 }

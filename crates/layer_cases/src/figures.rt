@@ -13,20 +13,16 @@ pub(crate) const CURVE: usize = 3000;
 // Makes the changes of a case, which stand in its line from the number 11 on, each a place in the room and the figure to be put there. Past the end of
 // the line all is 0, and a 0 is put at place 0, which nothing uses.
 pub(crate) fn change_all(numbers: &[u64; 64], figures: &mut [u64; 8192]) {
-    let mut i: usize = 11;
-    while i < 63 {
-        let at = (numbers[i] % 8192) as usize;
-        figures[at] = numbers[i + 1];
-        i += 2;
+    for i in 0..26 {
+        let at = (numbers[11 + 2 * i] % 8192) as usize;
+        figures[at] = numbers[12 + 2 * i];
     }
 }
 
 // The reals whose bits the figures are.
 pub(crate) fn fill_reals(figures: &[u64; 8192], reals: &mut [f64; 8192]) {
-    let mut i: usize = 0;
-    while i < 8192 {
+    for i in 0..8192 {
         reals[i] = f64_of_bits(figures[i]);
-        i += 1;
     }
 }
 

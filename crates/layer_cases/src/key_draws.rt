@@ -3,21 +3,23 @@
 use crate::print;
 use crate::room::{coefficients_room, residues_room};
 use primus_distr::{SecretKeyDistr, SecretKeySampler};
+use std::io;
 
 // Draws signed coefficients, and residues of one modulus.
 pub(crate) fn draw_coefficients(
+    rt: &impl Print,
     standard_deviation: f64,
     request: &[u64; 64],
     endpoints: &[u64],
     heights: &[f64],
     curve: &[f64],
     words: &[u32],
-) {
+) -> io::Result<()> {
     let n = request[0] as usize;
     let modulus = request[1];
     let place = request[7] as usize;
     if 70000 < n {
-        return;
+        return Ok(());
     }
     let made = SecretKeySampler::try_new(SecretKeyDistr::Gaussian { standard_deviation });
     let sampler = made.sampler;
@@ -26,7 +28,7 @@ pub(crate) fn draw_coefficients(
     let signed = &mut coefficients[0..n];
     let encoded = &mut residues[0..n];
     let answer = sampler.sample_signed_to(signed, &[], endpoints, heights, curve, words, place);
-    print::coefficients(answer, signed);
+    print::coefficients(rt, answer, signed)?;
     let answer = sampler.sample_encoded_to(
         encoded,
         modulus,
@@ -37,24 +39,25 @@ pub(crate) fn draw_coefficients(
         words,
         place,
     );
-    print::residues(answer, encoded);
+    print::residues(rt, answer, encoded)
 }
 
 // Draws residues of two moduli.
 pub(crate) fn draw_rows(
+    rt: &impl Print,
     standard_deviation: f64,
     request: &[u64; 64],
     endpoints: &[u64],
     heights: &[f64],
     curve: &[f64],
     words: &[u32],
-) {
+) -> io::Result<()> {
     let length = request[2] as usize;
     let coefficients = request[3] as usize;
     let moduli = [request[4], request[5]];
     let place = request[7] as usize;
     if 70000 < length {
-        return;
+        return Ok(());
     }
     let made = SecretKeySampler::try_new(SecretKeyDistr::Gaussian { standard_deviation });
     let sampler = made.sampler;
@@ -71,5 +74,5 @@ pub(crate) fn draw_rows(
         words,
         place,
     );
-    print::residues(answer, rows);
+    print::residues(rt, answer, rows)
 }

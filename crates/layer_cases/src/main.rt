@@ -10,74 +10,66 @@ mod print;
 mod room;
 
 use crate::case::answer_case;
-use bytes::scan::find;
-use libc::STDOUT_FILENO;
+use full_read::read_file;
 use residue_text::number::ALL;
 use residue_text::numbers::read_numbers;
+use std::rt::Files;
+use std::{env, io};
 
 // Reads the numbers of a line into the room for figures, from a place on.
-fn put_line(line: &[u8], from: usize, figures: &mut [u64]) {
+fn put_line(rt: &impl Print, line: &[u8], from: usize, figures: &mut [u64]) -> io::Result<()> {
     if figures.len() < from {
-        return;
+        return Ok(());
     }
     let read = read_numbers(line, ALL, &mut figures[from..]);
     if read.more {
-        print::bad_line();
+        return print::bad_line(rt);
     }
+    Ok(())
 }
 
 // Takes a line: the first four are the parameters and the lists, and each other is a case, over a copy of them.
-fn take_line(number: usize, line: &[u8], figures: &mut [u64; 8192]) {
+fn take_line(
+    rt: &impl Print,
+    number: usize,
+    line: &[u8],
+    figures: &mut [u64; 8192],
+) -> io::Result<()> {
     match number {
-        0 => put_line(line, figures::PARAMETERS, figures),
-        1 => put_line(line, figures::ENDPOINTS, figures),
-        2 => put_line(line, figures::HEIGHTS, figures),
-        3 => put_line(line, figures::CURVE, figures),
-        _ => answer_case(line, *figures),
+        0 => put_line(rt, line, figures::PARAMETERS, figures),
+        1 => put_line(rt, line, figures::ENDPOINTS, figures),
+        2 => put_line(rt, line, figures::HEIGHTS, figures),
+        3 => put_line(rt, line, figures::CURVE, figures),
+        _ => answer_case(rt, line, *figures),
     }
 }
 
 // Takes the lines of a text, one after the other. A newline ends a line, and the text's end the last one.
-fn answer_text(text: &[u8]) {
-    let size = text.len();
+fn answer_text(rt: &impl Print, text: &[u8]) -> io::Result<()> {
     let mut figures = [0u64; 8192];
     let mut number = 0;
-    let mut at = 0;
-    while at < size {
-        let end = find(text, at, size, b'\n');
-        take_line(number, &text[at..end], &mut figures);
-        if end == size {
-            return;
-        }
-        number = std::num::wrapping_add_usize(number, 1);
-        at = end + 1;
+    for ended in text.split_inclusive(|byte| *byte == b'\n') {
+        let line = ended.strip_suffix(b"\n").unwrap_or(ended);
+        take_line(rt, number, line, &mut figures)?;
+        number = number.wrapping_add(1);
     }
+    Ok(())
 }
 
-// Answers the file that an argument names, after a line with its name.
-fn answer_argument(i: usize) {
-    let mut buffer = io::buffer();
-    let length = os::arg(i, &mut buffer);
-    let path = &buffer[..length];
-    io::write_all(STDOUT_FILENO, b"== ");
-    io::write_all(STDOUT_FILENO, path);
-    io::write_all(STDOUT_FILENO, b"\n");
-    let fd = os::open_read(path);
-    if fd < 0 {
-        os::fail(path);
-        return;
-    }
+// Answers the file that an argument names, after a line with its name. An argument of more than 4,096 bytes names none.
+fn answer_argument<R: Print + Eprint + Files + Alloc>(rt: &R, argument: &str) -> io::Result<()> {
+    let path = if 4096 < argument.len() { "" } else { argument };
+    println!(rt; "== {path}")?;
     let mut text = room::text_room();
-    let size = io::read_full(fd, &mut text);
-    libc::close(fd);
-    answer_text(&text[..size]);
+    match read_file(rt, path, &mut text)? {
+        Some(size) => answer_text(rt, &text[..size]),
+        None => Ok(()),
+    }
 }
 
-fn main() {
-    let count = os::arg_count();
-    let mut i = 1;
-    while i < count {
-        answer_argument(i);
-        i += 1;
+fn main(rt: HostRuntime) -> io::Result<()> {
+    for argument in env::args(&rt)?.skip(1) {
+        answer_argument(&rt, argument.as_str())?;
     }
+    Ok(())
 }

@@ -1,61 +1,54 @@
 // What the program prints.
-use libc::STDOUT_FILENO;
 use primus_distr::Answer;
+use std::io;
 
 // A number in decimal, and a space after it.
-pub(crate) fn number(value: u64) {
-    io::print_decimal(STDOUT_FILENO, value);
-    io::write_all(STDOUT_FILENO, b" ");
+pub(crate) fn number(rt: &impl Print, value: u64) -> io::Result<()> {
+    print!(rt; "{value} ")
 }
 
 // Says that a line has another form.
-pub(crate) fn bad_line() {
-    io::write_all(STDOUT_FILENO, b"bad line\n");
+pub(crate) fn bad_line(rt: &impl Print) -> io::Result<()> {
+    print!(rt; "bad line\n")
 }
 
 // A draw's answer: number, index, place and both sums; and whether its output is empty, holds what it held before, or only zeros.
-fn answer(answer: Answer, size: usize, same: bool, zeros: bool) {
-    io::write_all(STDOUT_FILENO, b"| ");
-    number(answer.number as u64);
-    number(answer.index as u64);
-    number(answer.place as u64);
-    number(answer.skipped_words);
-    number(answer.skipped_bytes);
+fn answer(rt: &impl Print, answer: Answer, size: usize, same: bool, zeros: bool) -> io::Result<()> {
+    print!(rt; "| ")?;
+    number(rt, answer.number as u64)?;
+    number(rt, answer.index as u64)?;
+    number(rt, answer.place as u64)?;
+    number(rt, answer.skipped_words)?;
+    number(rt, answer.skipped_bytes)?;
     if size == 0 {
-        io::write_all(STDOUT_FILENO, b"empty ");
+        print!(rt; "empty ")
     } else if same {
-        io::write_all(STDOUT_FILENO, b"same ");
+        print!(rt; "same ")
     } else if zeros {
-        io::write_all(STDOUT_FILENO, b"zeros ");
+        print!(rt; "zeros ")
     } else {
-        io::write_all(STDOUT_FILENO, b"other ");
+        print!(rt; "other ")
     }
 }
 
 // The answer of a draw of residues.
-pub(crate) fn residues(drawn: Answer, output: &[u64]) {
+pub(crate) fn residues(rt: &impl Print, drawn: Answer, output: &[u64]) -> io::Result<()> {
     let mut same = true;
     let mut zeros = true;
-    let mut i = 0;
-    while i < output.len() {
-        let residue = output[i];
-        same = same & (residue == 9);
-        zeros = zeros & (residue == 0);
-        i += 1;
+    for residue in output {
+        same = same & (*residue == 9);
+        zeros = zeros & (*residue == 0);
     }
-    answer(drawn, i, same, zeros);
+    answer(rt, drawn, output.len(), same, zeros)
 }
 
 // The answer of a draw of signed coefficients.
-pub(crate) fn coefficients(drawn: Answer, output: &[i64]) {
+pub(crate) fn coefficients(rt: &impl Print, drawn: Answer, output: &[i64]) -> io::Result<()> {
     let mut same = true;
     let mut zeros = true;
-    let mut i = 0;
-    while i < output.len() {
-        let coefficient = output[i];
-        same = same & (coefficient == 9);
-        zeros = zeros & (coefficient == 0);
-        i += 1;
+    for coefficient in output {
+        same = same & (*coefficient == 9);
+        zeros = zeros & (*coefficient == 0);
     }
-    answer(drawn, i, same, zeros);
+    answer(rt, drawn, output.len(), same, zeros)
 }

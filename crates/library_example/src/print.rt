@@ -1,98 +1,109 @@
 // Lines on standard output.
-use libc::STDOUT_FILENO;
 use primus_distr::{Answer, Report};
+use std::io;
 
 // The name, the number and the place.
-fn head(name: &[u8], number: u32, place: usize) {
-    io::write_all(STDOUT_FILENO, name);
-    io::write_all(STDOUT_FILENO, b": ");
-    io::print_decimal(STDOUT_FILENO, number as u64);
-    io::write_all(STDOUT_FILENO, b" ");
-    io::print_decimal(STDOUT_FILENO, place as u64);
+fn head(rt: &impl Print, name: &[u8], number: u32, place: usize) -> io::Result<()> {
+    rt.write_all(name)?;
+    print!(rt; ": {number} {place}")
 }
 
 // The end of a line.
-fn end() {
-    io::write_all(STDOUT_FILENO, b"\n");
+fn end(rt: &impl Print) -> io::Result<()> {
+    print!(rt; "\n")
 }
 
 // A space and a number.
-fn unsigned(value: u64) {
-    io::write_all(STDOUT_FILENO, b" ");
-    io::print_decimal(STDOUT_FILENO, value);
+fn unsigned(rt: &impl Print, value: u64) -> io::Result<()> {
+    print!(rt; " {value}")
 }
 
 // A space and a coefficient: those of this example that are negative are -2 and -1.
-fn signed(value: i64) {
+fn signed(rt: &impl Print, value: i64) -> io::Result<()> {
     if value == -2 {
-        io::write_all(STDOUT_FILENO, b" -2");
+        print!(rt; " -2")
     } else if value == -1 {
-        io::write_all(STDOUT_FILENO, b" -1");
+        print!(rt; " -1")
     } else if 0 <= value {
-        unsigned(value as u64);
+        unsigned(rt, value as u64)
     } else {
-        io::write_all(STDOUT_FILENO, b" ?");
+        print!(rt; " ?")
     }
 }
 
 // A line of a number alone, with the place 0.
-pub(crate) fn number_line(name: &[u8], number: u32) {
-    head(name, number, 0);
-    end();
+pub(crate) fn number_line(rt: &impl Print, name: &[u8], number: u32) -> io::Result<()> {
+    head(rt, name, number, 0)?;
+    end(rt)
 }
 
 // A line of a number and the index that goes with it.
-pub(crate) fn index_line(name: &[u8], number: u32, index: usize) {
-    head(name, number, index);
-    end();
+pub(crate) fn index_line(
+    rt: &impl Print,
+    name: &[u8],
+    number: u32,
+    index: usize,
+) -> io::Result<()> {
+    head(rt, name, number, index)?;
+    end(rt)
 }
 
 // A line of a signed draw.
-pub(crate) fn signed_line(name: &[u8], answer: Answer, values: &[i64]) {
-    head(name, answer.number, answer.place);
-    let mut i = 0;
-    while i < values.len() {
-        signed(values[i]);
-        i += 1;
+pub(crate) fn signed_line(
+    rt: &impl Print,
+    name: &[u8],
+    answer: Answer,
+    values: &[i64],
+) -> io::Result<()> {
+    head(rt, name, answer.number, answer.place)?;
+    for value in values {
+        signed(rt, *value)?;
     }
-    end();
+    end(rt)
 }
 
 // The numbers that end a line.
-fn rest(values: &[u64]) {
-    let mut i = 0;
-    while i < values.len() {
-        unsigned(values[i]);
-        i += 1;
+fn rest(rt: &impl Print, values: &[u64]) -> io::Result<()> {
+    for value in values {
+        unsigned(rt, *value)?;
     }
-    end();
+    end(rt)
 }
 
 // A line of residues.
-pub(crate) fn line(name: &[u8], answer: Answer, values: &[u64]) {
-    head(name, answer.number, answer.place);
-    rest(values);
+pub(crate) fn line(rt: &impl Print, name: &[u8], answer: Answer, values: &[u64]) -> io::Result<()> {
+    head(rt, name, answer.number, answer.place)?;
+    rest(rt, values)
 }
 
 // A line of a report: its number, a minus sign where the sum is negative, the halves of both sums, and the counts.
-pub(crate) fn report_line(name: &[u8], report: Report, counts: &[u64]) {
-    io::write_all(STDOUT_FILENO, name);
-    io::write_all(STDOUT_FILENO, b": ");
-    io::print_decimal(STDOUT_FILENO, report.number as u64);
+pub(crate) fn report_line(
+    rt: &impl Print,
+    name: &[u8],
+    report: Report,
+    counts: &[u64],
+) -> io::Result<()> {
+    let number = report.number;
+    rt.write_all(name)?;
+    print!(rt; ": {number}")?;
     if report.negative {
-        io::write_all(STDOUT_FILENO, b" -");
+        print!(rt; " -")?;
     }
-    unsigned(report.sum_high);
-    unsigned(report.sum_low);
-    unsigned(report.squares_high);
-    unsigned(report.squares_low);
-    rest(counts);
+    unsigned(rt, report.sum_high)?;
+    unsigned(rt, report.sum_low)?;
+    unsigned(rt, report.squares_high)?;
+    unsigned(rt, report.squares_low)?;
+    rest(rt, counts)
 }
 
 // A line of a polynomial: its number and some coefficients.
-pub(crate) fn polynomial_line(name: &[u8], number: u32, coefficients: &[u64]) {
-    io::write_all(STDOUT_FILENO, name);
-    io::write_all(STDOUT_FILENO, b": ");
-    io::print_decimal(STDOUT_FILENO, number as u64);
-    rest(coefficients);
+pub(crate) fn polynomial_line(
+    rt: &impl Print,
+    name: &[u8],
+    number: u32,
+    coefficients: &[u64],
+) -> io::Result<()> {
+    rt.write_all(name)?;
+    print!(rt; ": {number}")?;
+    rest(rt, coefficients)
 }

@@ -17,32 +17,12 @@ pub(crate) fn same_answers(one: Answer, other: Answer) -> bool
 pub(crate) fn same_signed(one: &[i64], other: &[i64]) -> bool
     ensures { (result ≡ true → one.now ≡ other.now) × (one.now ≡ other.now → result ≡ true) }
 {
-    if one.len() != other.len() {
-        return false;
-    }
-    let mut i = 0;
-    while i < one.len() {
-        if one[i] != other[i] {
-            return false;
-        }
-        i += 1;
-    }
-    true
+    one == other
 }
 
 // Two outputs of residues, element by element.
 pub(crate) fn same_residues(one: &[u64], other: &[u64]) -> bool
     ensures { (result ≡ true → one.now ≡ other.now) × (one.now ≡ other.now → result ≡ true) }
 {
-    if one.len() != other.len() {
-        return false;
-    }
-    let mut i = 0;
-    while i < one.len() {
-        if one[i] != other[i] {
-            return false;
-        }
-        i += 1;
-    }
-    true
+    one == other
 }

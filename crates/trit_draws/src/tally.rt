@@ -31,7 +31,7 @@ pub(crate) fn none() -> Tally {
 
 // A count with one more where a test holds.
 fn counted(count: u64, holds: bool) -> u64 {
-    std::num::wrapping_add_u64(count, holds as u64)
+    count.wrapping_add(holds as u64)
 }
 
 // The sum with a value more. It depends on the order of the values.
@@ -64,10 +64,8 @@ fn plus_one(element: i64) -> u64 {
 // The sum with an output of signed values more.
 pub(crate) fn added_signed(sum: u64, output: &[i64]) -> u64 {
     let mut all = sum;
-    let mut i = 0;
-    while i < output.len() {
-        all = added(all, plus_one(output[i]));
-        i += 1;
+    for element in output {
+        all = added(all, plus_one(*element));
     }
     all
 }
@@ -75,10 +73,8 @@ pub(crate) fn added_signed(sum: u64, output: &[i64]) -> u64 {
 // The sum with an output of residues more, each plus 1.
 pub(crate) fn added_residues(sum: u64, output: &[u64]) -> u64 {
     let mut all = sum;
-    let mut i = 0;
-    while i < output.len() {
-        all = added(all, std::num::wrapping_add_u64(output[i], 1));
-        i += 1;
+    for residue in output {
+        all = added(all, residue.wrapping_add(1));
     }
     all
 }

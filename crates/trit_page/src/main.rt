@@ -4,8 +4,8 @@
 
 mod page;
 
-use libc::STDOUT_FILENO;
+use std::io;
 
-fn main() {
-    io::write_all(STDOUT_FILENO, &page::page());
+fn main(rt: HostRuntime) -> io::Result<()> {
+    rt.write_all(&page::page())
 }

@@ -111,6 +111,7 @@ pub fn uniform_below(words: &[u32], place: usize, k: u64) -> Taken
 }
 
 // A coin: yes for a word of 2^31 or more.
+#[tactic(auto, unfolding(crate::specs::Reading::told, distr::specs::Words::coin, distr::specs::Words::word, distr::specs::Words::map_read))]
 pub fn random_bool(words: &[u32], place: usize) -> Told
     ensures { result ≡ told (length words.now) (coin (drop place words.now)) }
 {

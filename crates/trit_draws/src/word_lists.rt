@@ -49,11 +49,9 @@ pub(crate) fn of_kind(kind: u32) -> [u32; 96]
 {
     let mut words = words_room();
     let mut state = 1;
-    let mut i = 0;
-    while i < 96 {
+    for i in 0..96 {
         state = next_state(state);
         words[i] = word_at(kind, i, state);
-        i += 1;
     }
     words
 }
