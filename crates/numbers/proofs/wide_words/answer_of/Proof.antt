@@ -3,7 +3,6 @@ use mathlib.Core.Path.{◌≡◌, sym, ◌∙◌}
 use Prim.Native.Nat.{◌≤◌}
 use native.Mathlib.Omega.{arith}
 use borrow.Author.Rules.{rules}
-use borrow.Author.Tests.{not-true, not-false}
 use Rattle.distr.specs.Constants.{output_limit}
 use Rattle.numbers.proofs.Refusing.{draw_number, number_passed}
 use Rattle.numbers.proofs.WideNumbers.{answer-refused, answer-constant, answer-short, answer_read}
