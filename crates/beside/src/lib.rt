@@ -26,8 +26,7 @@ pub use report::beside_report;
 pub use signed::beside_signed;
 
 // The number of making a sampler of a kind; 14 where the kind names no distribution.
-#[unsafe(no_mangle)]
-pub extern "C" fn beside_make(kind: u32, a: usize, b: usize, p: f64, q: f64) -> u32
+pub fn beside_make(kind: u32, a: usize, b: usize, p: f64, q: f64) -> u32
     ensures { result ≡ (preparing_any (named kind a b p q)).number }
 {
     kind::by_kind(kind, a, b, p, q).prepare().number
