@@ -8,7 +8,7 @@
 // these, new_place and whatever else a call writes through overlap neither each other nor anything else that the call is lent.
 #![tactic(auto)]
 
-mod crt;
+mod crt_draw;
 mod encoded;
 mod kind;
 mod polynomial;
@@ -19,7 +19,7 @@ ghost use Rattle.std.specs.Prelude.{◌≡◌};
 ghost use Rattle.any_sampler.specs.Either.{preparing_any};
 ghost use Rattle.beside.specs.Calls.{named};
 
-pub use crt::beside_crt;
+pub use crt_draw::beside_crt;
 pub use encoded::beside_encoded;
 pub use polynomial::beside_sample_poly_cbd;
 pub use report::beside_report;
