@@ -3,8 +3,8 @@ use borrow.Author.Rules.{rules}
 use Rattle.signed_discrete_gaussian.specs.Lent.{lent}
 use Rattle.any_sampler.proofs.Drawing.{any_crt}
 use Rattle.beside.specs.Calls.{named}
-use Rattle.beside.proofs.crt.beside_crt.Statement.{statement}
-use Rattle.beside.proofs.crt.beside_crt.Tie as tie
+use Rattle.beside.proofs.crt_draw.beside_crt.Statement.{statement}
+use Rattle.beside.proofs.crt_draw.beside_crt.Tie as tie
 
 returns : tie.Need-returns
 returns c =

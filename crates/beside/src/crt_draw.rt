@@ -11,8 +11,7 @@ use crate::kind::by_kind;
 use prepared_draws::crt_draw::sample_crt_to;
 
 // A draw of residues of several moduli.
-#[unsafe(no_mangle)]
-pub extern "C" fn beside_crt(
+pub fn beside_crt(
     kind: u32,
     a: usize,
     b: usize,
