@@ -1,9 +1,8 @@
 -- `compare::agrees` compares the index, the number, the place, both sums and what follows them.
-use Rattle.std.proofs.Common.{◌≡◌, ℕ, ◌-◌, ◌<◌, ◌≤◌, Bool, false, ◌&&◌, eqb, List, [], ◌∷◌, length, get_or, take, drop, sym, refl, ap, ◌∙◌, arith, length-drop, take_all, rules, eq-eqb, ne_eqb}
+use Rattle.std.proofs.Common.{◌≡◌, ℕ, ◌-◌, ◌<◌, ◌≤◌, false, ◌&&◌, eqb, List, [], ◌∷◌, length, get_or, take, drop, sym, refl, ap, ◌∙◌, arith, length-drop, take_all, eq-eqb, ne_eqb}
 use mathlib.Core.Bool.{and_assoc, and-false}
 use Rattle.rust_answers.specs.Answer.{same, shown, answer_line}
-use Rattle.rust_answers.proofs.compare.agrees.Statement.{statement}
-use Rattle.rust_answers.proofs.compare.agrees.Tie as tie
+use Rattle.rust_answers.proofs.compare.agrees.Goals as goal
 
 -- a list that is too short is not the same
 short : (s r : List ℕ) (n p w b : ℕ) → length s < 4 → same s (n ∷ p ∷ w ∷ b ∷ r) ≡ false
@@ -37,36 +36,25 @@ none (x ∷ t) = ne_eqb (length (x ∷ t)) 0 (λ e. omega arith)
 tail : (s : List ℕ) → take (length s - 4) (drop 4 s) ≡ drop 4 s
 tail s = take_all (length s - 4) (drop 4 s) (simp length-drop (omega arith))
 
-returns : tie.Need-returns
-returns c = rw (ne_eqb c.before.before.before.args.index 0 c.if1.true) refl
-
-returns-2 : tie.Need-returns-2
+pub returns-then-stored-lt4 : goal.returns-then-stored-lt4
 unfolding answer_line
-returns-2 c =
-    let a = c.before.before.before.before.args in
-    rw (eq-eqb a.index 0 c.before.if1.false)
-    (sym (short a.stored.now _ a.number a.place a.skipped_words a.skipped_bytes c.if2.true))
+returns-then-stored-lt4 c =
+    let a = c.args in
+    rw (eq-eqb a.index 0 c.if-index-ne0.false)
+    (sym (short a.stored.now _ a.number a.place a.skipped_words a.skipped_bytes c.if-stored-lt4.true))
 
-returns-3 : tie.Need-returns-3
+pub returns-then-number-ne0 : goal.returns-then-number-ne0
 unfolding answer_line
-returns-3 c =
-    let tested = c.before.before.before.before.before.before in
-    let a = tested.before.before.before.before.args in
+returns-then-number-ne0 c =
+    let a = c.args in
     let s = a.stored.now in
-    rw (eq-eqb a.index 0 tested.before.if1.false, ne_eqb a.number 0 c.if3.true, tail s, none (drop 4 s))
-    (joined s [] a.number a.place a.skipped_words a.skipped_bytes tested.if2.false)
+    rw (eq-eqb a.index 0 c.if-index-ne0.false, ne_eqb a.number 0 c.if-number-ne0.true, tail s, none (drop 4 s))
+    (joined s [] a.number a.place a.skipped_words a.skipped_bytes c.if-stored-lt4.false)
 
-returns-4 : tie.Need-returns-4
+pub returns : goal.returns
 unfolding answer_line
-returns-4 c =
-    let tested = c.before.before.before.before.before.before.before in
-    let a = tested.before.before.before.before.args in
+returns c =
+    let a = c.args in
     let s = a.stored.now in
-    rw (eq-eqb a.index 0 tested.before.if1.false, eq-eqb a.number 0 c.before.if3.false, c.is_shown.ensures, tail s)
-    (joined s (shown a.offset a.output.now) a.number a.place a.skipped_words a.skipped_bytes tested.if2.false)
-
-pub agrees_spec : {M : Type 1} → statement M
-agrees_spec =
-    tie.close
-    (tie.spec returns returns-2 (λ c. search rules) (λ c. search rules) (λ c. search rules) (λ c. search rules) (λ c. search rules) (λ c. search rules)
-    (λ c. search rules) returns-3 (λ c κs. search rules) returns-4)
+    rw (eq-eqb a.index 0 c.if-index-ne0.false, eq-eqb a.number 0 c.if-number-ne0.false, c.is_shown.ensures, tail s)
+    (joined s (shown a.offset a.output.now) a.number a.place a.skipped_words a.skipped_bytes c.if-stored-lt4.false)
