@@ -35,10 +35,8 @@ fn residue_at(coefficients: &[i64], i: usize) -> u64 {
 
 // Puts signed coefficients modulo 2^64 into an output.
 fn put_residues(coefficients: &[i64], output: &mut [u64]) {
-    let mut i = 0;
-    while i < output.len() {
+    for i in 0..output.len() {
         output[i] = residue_at(coefficients, i);
-        i += 1;
     }
 }
 

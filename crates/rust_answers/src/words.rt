@@ -39,12 +39,10 @@ fn after_word(given: &[u64], i: usize, x: u64) -> u64 {
 pub(crate) fn fill_words(words: &mut [u32], given: &[u64], seed: u64) -> bool {
     let mut good = true;
     let mut x = seed;
-    let mut i = 0;
-    while i < words.len() {
+    for i in 0..words.len() {
         good = good & (value_at(given, i) < 0x1_0000_0000);
         words[i] = word_at(given, i, x);
         x = after_word(given, i, x);
-        i += 1;
     }
     good
 }
