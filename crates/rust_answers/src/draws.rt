@@ -1,12 +1,12 @@
 // The calls that the lines ask for, and whether their answers agree.
 use crate::compare::{agrees, same};
+use crate::draw_words::fill_words;
 use crate::line::{distr_of, moduli_of, words_of};
-use crate::numbers::{
+use crate::line_numbers::{
     ANSWER, BOUNDS, CURVE, ENDPOINTS, HEIGHTS, entries, kept, part, rest, size_at, value_at,
 };
 use crate::real::{fill_reals, reals_part};
 use crate::room::{coefficients_room, reals_room, residues_room, words_room};
-use crate::words::fill_words;
 use gaussian_core::encode::magnitude;
 
 // The most words and elements of an output that a line may ask for.

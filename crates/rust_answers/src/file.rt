@@ -1,7 +1,7 @@
 // A file of answers, byte by byte.
 use crate::draws::is_answered;
 use crate::line::is_table;
-use crate::numbers::{ANSWER, LAST, kept, put};
+use crate::line_numbers::{ANSWER, LAST, kept, put};
 use crate::reading::{Line, count_of, end_number, is_unread, unread, with_byte};
 use crate::room::numbers_room;
 use crate::tally::{Tally, empty, with_answer, with_table};

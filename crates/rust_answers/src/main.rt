@@ -5,16 +5,16 @@
 #![tactic(auto)]
 
 mod compare;
+mod draw_words;
 mod draws;
 mod file;
 mod line;
-mod numbers;
+mod line_numbers;
 mod print;
 mod reading;
 mod real;
 mod room;
 mod tally;
-mod words;
 
 use room::text_room;
 use std::io;

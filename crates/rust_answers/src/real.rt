@@ -1,5 +1,5 @@
 // The f64 that two numbers m, e of a line stand for: m × 2^e.
-use crate::numbers::value_at;
+use crate::line_numbers::value_at;
 use crate::reading::SIGN;
 
 // A number without its sign.

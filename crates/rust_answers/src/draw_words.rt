@@ -1,5 +1,5 @@
 // The words of a draw, which a seed and some given words describe.
-use crate::numbers::value_at;
+use crate::line_numbers::value_at;
 
 // 2^31 - 1, the modulus of the seed's sequence.
 const MODULUS: u64 = 0x7fff_ffff;
