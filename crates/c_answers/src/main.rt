@@ -36,7 +36,7 @@ fn judge(rt: &(impl Files + Print + Eprint + Alloc), name: &str) -> io::Result<T
 fn main(rt: HostRuntime) -> io::Result<()> {
     let mut total = tally::none();
     for name in std::env::args(&rt)?.skip(1) {
-        total = tally::joined(total, judge(&rt, name.as_str())?);
+        total = tally::joined(total, judge(&rt, full_read::path_of(name.as_str()))?);
     }
     summary(&rt, "total", total)?;
     judge(&rt, "altered.txt")?;

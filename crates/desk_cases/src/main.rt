@@ -49,7 +49,7 @@ fn answer_file(rt: &(impl Files + Print + Eprint + Alloc), path: &str) -> io::Re
 
 fn main(rt: HostRuntime) -> io::Result<()> {
     for path in std::env::args(&rt)?.skip(1) {
-        answer_file(&rt, path.as_str())?;
+        answer_file(&rt, full_read::path_of(path.as_str()))?;
     }
     Ok(())
 }
