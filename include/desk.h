@@ -1,9 +1,9 @@
 /* The exam desk's entry, from libdesk.a: one call that draws a sheet's question by numbers, with words and coefficients as little-endian bytes.
  *
- * `rt staticlib desk` writes target/staticlib/libdesk.a, for x86-64 Linux; desk_callers/ has callers in C, Rust and Python.
+ * `bash tools/staticlib.sh desk` writes target/staticlib/libdesk.a, for x86-64 Linux; desk_callers/ has callers in C, Rust and Python.
  *
- * That the call ends, touches nothing but what it is lent, and answers as is said below is proved for every request (crates/desk), provided that the
- * caller keeps what the proof cannot ask of a foreign program:
+ * That the call ends, touches nothing but what it is lent, and answers as is said below is proved for every request (crates/desk and crates/desk_c),
+ * provided that the caller keeps what the proof cannot ask of a foreign program:
  *
  *   - No pointer is null, not even that of an empty slice, whose length is 0: point it at any byte.
  *   - Each slice is valid for its length in bytes: `words` for reading, `output` for reading and writing. `place`, `skipped_words` and `skipped_bytes` are

@@ -6,7 +6,7 @@ cd "$(dirname "$0")/.."
 lib=$(realpath -m "${DESK_LIB:-target/staticlib}")
 here=desk_callers
 cases=crates/keysheet_cases
-[ -f "$lib/libdesk.a" ] || rt staticlib desk
+[ -f "$lib/libdesk.a" ] || bash tools/staticlib.sh desk
 
 make -s -C "$here/c" DESK_LIB="$lib"
 mkdir -p "$here/rust/target" "$here/python/target"

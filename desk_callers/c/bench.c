@@ -1,5 +1,5 @@
 /* Nanoseconds a coefficient of the desk's entry, beside the engine's own call on words and coefficients that are no bytes: the same words, in turns, the
- * least of many rounds. Argument: the number of rounds (2,000 where none is given). It needs libbeside.a, which `rt staticlib beside` writes. */
+ * least of many rounds. Argument: the number of rounds (2,000 where none is given). It needs libbeside.a, which `bash tools/staticlib.sh beside` writes. */
 #define _POSIX_C_SOURCE 199309L
 #include "desk.h"
 #include "sheet.h"

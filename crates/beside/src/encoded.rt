@@ -11,8 +11,7 @@ use crate::kind::by_kind;
 use prepared_draws::encoded::{ResidueMethod, sample_encoded_to};
 
 // A draw of residues of one modulus.
-#[unsafe(no_mangle)]
-pub extern "C" fn beside_encoded(
+pub fn beside_encoded(
     kind: u32,
     a: usize,
     b: usize,

@@ -8,7 +8,7 @@
 // these, new_place and whatever else a call writes through overlap neither each other nor anything else that the call is lent.
 #![tactic(auto)]
 
-mod crt;
+mod crt_draw;
 mod encoded;
 mod kind;
 mod polynomial;
@@ -19,15 +19,14 @@ ghost use Rattle.std.specs.Prelude.{◌≡◌};
 ghost use Rattle.any_sampler.specs.Either.{preparing_any};
 ghost use Rattle.beside.specs.Calls.{named};
 
-pub use crt::beside_crt;
+pub use crt_draw::beside_crt;
 pub use encoded::beside_encoded;
 pub use polynomial::beside_sample_poly_cbd;
 pub use report::beside_report;
 pub use signed::beside_signed;
 
 // The number of making a sampler of a kind; 14 where the kind names no distribution.
-#[unsafe(no_mangle)]
-pub extern "C" fn beside_make(kind: u32, a: usize, b: usize, p: f64, q: f64) -> u32
+pub fn beside_make(kind: u32, a: usize, b: usize, p: f64, q: f64) -> u32
     ensures { result ≡ (preparing_any (named kind a b p q)).number }
 {
     kind::by_kind(kind, a, b, p, q).prepare().number

@@ -5,8 +5,7 @@ ghost use Rattle.distr.specs.SamplePolyCbd.{sample_poly_cbd};
 use poly_cbd::sample_poly_cbd;
 
 // A polynomial from bytes: its number is handed back, and a refusal writes nothing.
-#[unsafe(no_mangle)]
-pub extern "C" fn beside_sample_poly_cbd(output: &mut [u64], eta: u32, bytes: &[u8]) -> u32
+pub fn beside_sample_poly_cbd(output: &mut [u64], eta: u32, bytes: &[u8]) -> u32
     ensures { (result, output.new) ≡ sample_poly_cbd eta bytes.now output.old }
 {
     sample_poly_cbd(output, eta, bytes)

@@ -6,8 +6,7 @@ ghost use Rattle.beside.specs.Calls.{report_of};
 use stats::residue_report;
 
 // A report: its number is handed back, its sign and the halves of its sums are written through the references, zeros where it is refused.
-#[unsafe(no_mangle)]
-pub extern "C" fn beside_report(
+pub fn beside_report(
     residues: &[u64],
     modulus: u64,
     limits: &[u64],

@@ -11,8 +11,7 @@ use crate::kind::by_kind;
 use prepared_draws::signed::sample_signed_to;
 
 // A draw of signed coefficients.
-#[unsafe(no_mangle)]
-pub extern "C" fn beside_signed(
+pub fn beside_signed(
     kind: u32,
     a: usize,
     b: usize,

@@ -55,7 +55,7 @@ pub(crate) fn draw_blocks(
     words: &[u32],
     place: usize,
 ) -> Answer
-    requires block_size_nonzero { (0 < block_size) × (length output.old % block_size ≡ 0) × (place ≤ length words.now) × (block_size ≤ 65536) }
+    requires sizes { (0 < block_size) × (length output.old % block_size ≡ 0) × (place ≤ length words.now) × (block_size ≤ 65536) }
     requires choices_nonzero { (0 < choices) × (full ≡ true → choices ≤ block_size) }
     ensures output_after { let n = length output.old in
         outcome result output.new

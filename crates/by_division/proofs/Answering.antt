@@ -1,7 +1,7 @@
 -- What the rule of uniform ternary draws is what its distribution draws for a caller that has no sampler: making it refuses nothing, and its method is that of the rule.
-use mathlib.Core.Path.{◌≡◌, refl}
-use mathlib.Core.List.{List, map}
-use Prim.Native.Nat.{ℕ, ◌-◌, ◌^◌, ◌<◌}
+use mathlib.Core.Path.{refl}
+use mathlib.Core.List.{List}
+use Prim.Native.Nat.{ℕ, ◌^◌, ◌<◌}
 use lib.ListN.{length, drop}
 use lib.IntN.{ℤ}
 use Rattle.distr.specs.declared.answer.Answer.{Answer}

@@ -29,10 +29,8 @@ fn is_expected(coefficients: &[u64], number: u32, output: &[u64]) -> bool
         (λ i. nat_eq (slice_index output.now i) (expected_at coefficients.now number i)) }
 {
     let mut equal = true;
-    let mut i = 0;
-    while i < output.len() {
+    for i in 0..output.len() {
         equal = equal & (output[i] == expected(coefficients, number, i));
-        i += 1;
     }
     equal
 }

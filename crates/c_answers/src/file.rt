@@ -2,6 +2,7 @@
 use crate::reading::{Line, NUMBERS, end_number, unread, with_byte};
 use crate::request::is_answered;
 use crate::tally::{Tally, none, with_line};
+use std::io;
 
 // What is counted so far, and the line that is being read.
 #[derive(Clone, Copy)]
@@ -24,45 +25,48 @@ fn is_right(line: Line, numbers: &[u64; NUMBERS]) -> bool {
 }
 
 // The state after a byte more. A newline ends a line, and a space a number.
-fn step(state: State, byte: u8, numbers: &mut [u64; NUMBERS]) -> State {
+fn step(
+    rt: &impl Print,
+    state: State,
+    byte: u8,
+    numbers: &mut [u64; NUMBERS],
+) -> io::Result<State> {
     let tally = state.tally;
     let line = state.line;
     if byte == b'\n' {
         let whole = end_number(line, numbers);
-        return State {
-            tally: with_line(tally, is_right(whole, numbers)),
+        return Ok(State {
+            tally: with_line(rt, tally, is_right(whole, numbers))?,
             line: unread(),
-        };
+        });
     }
     if byte == b' ' {
-        return State {
+        return Ok(State {
             tally,
             line: end_number(line, numbers),
-        };
+        });
     }
-    State {
+    Ok(State {
         tally,
         line: with_byte(line, byte),
-    }
+    })
 }
 
 // Judges all lines of a text. What follows the last newline is an answer that does not agree.
-pub(crate) fn judge_text(text: &[u8]) -> Tally {
+pub(crate) fn judge_text(rt: &impl Print, text: &[u8]) -> io::Result<Tally> {
     let mut numbers = [0; NUMBERS];
     let mut state = State {
         tally: none(),
         line: unread(),
     };
     let mut ended = true;
-    let mut i = 0;
-    while i < text.len() {
-        state = step(state, text[i], &mut numbers);
-        ended = text[i] == b'\n';
-        i += 1;
+    for byte in text {
+        state = step(rt, state, *byte, &mut numbers)?;
+        ended = *byte == b'\n';
     }
     let tally = state.tally;
     if ended {
-        return tally;
+        return Ok(tally);
     }
-    with_line(tally, false)
+    with_line(rt, tally, false)
 }

@@ -11,6 +11,8 @@ mod tally;
 
 ghost use Rattle.std.specs.Prelude.{◌≡◌, length};
 
+use std::io;
+use std::rt::Files;
 use tally::{Tally, summary};
 
 // For a file of 131,072 bytes. What follows them is not read.
@@ -21,35 +23,22 @@ fn text_room() -> [u8; 131072]
 }
 
 // Judges a file, and prints its totals. One that cannot be opened has no answers.
-fn judge(name: &[u8]) -> Tally {
-    let fd = os::open_read(name);
-    if fd < 0 {
-        os::fail(name);
-        return tally::none();
-    }
+fn judge(rt: &(impl Files + Print + Eprint + Alloc), name: &str) -> io::Result<Tally> {
     let mut text = text_room();
-    let size = io::read_full(fd, &mut text);
-    libc::close(fd);
-    let tally = file::judge_text(&text[..size]);
-    summary(name, tally);
-    tally
+    let Some(size) = full_read::read_file(rt, name, &mut text)? else {
+        return Ok(tally::none());
+    };
+    let tally = file::judge_text(rt, &text[..size])?;
+    summary(rt, name, tally)?;
+    Ok(tally)
 }
 
-// Judges the file that an argument names.
-fn judge_argument(i: usize) -> Tally {
-    let mut path = io::buffer();
-    let end = os::arg(i, &mut path);
-    judge(&path[..end])
-}
-
-fn main() {
-    let count = os::arg_count();
+fn main(rt: HostRuntime) -> io::Result<()> {
     let mut total = tally::none();
-    let mut i = 1;
-    while i < count {
-        total = tally::joined(total, judge_argument(i));
-        i += 1;
+    for name in std::env::args(&rt)?.skip(1) {
+        total = tally::joined(total, judge(&rt, full_read::path_of(name.as_str()))?);
     }
-    summary(b"total", total);
-    judge(b"altered.txt");
+    summary(&rt, "total", total)?;
+    judge(&rt, "altered.txt")?;
+    Ok(())
 }

@@ -32,12 +32,10 @@ fn rest(values: &[u64], from: usize) -> &[u64] {
 // Fills the bytes from the numbers of a line, with zeros past its end. Hands back whether each is a byte.
 fn fill_bytes(bytes: &mut [u8], values: &[u64]) -> bool {
     let mut good = true;
-    let mut i = 0;
-    while i < bytes.len() {
+    for i in 0..bytes.len() {
         let value = value_at(values, i);
         good = good & (value < 256);
         bytes[i] = (value % 256) as u8;
-        i += 1;
     }
     good
 }

@@ -1,5 +1,5 @@
 // Counting answers and those that agree, and what is printed of them.
-use libc::STDOUT_FILENO;
+use std::io;
 
 // The number of answers, and of those that agree. Each line is an answer, so the first is also the number of the last line.
 #[derive(Clone, Copy)]
@@ -24,26 +24,22 @@ pub(crate) fn joined(one: Tally, other: Tally) -> Tally {
 }
 
 // The counts after one line more. One that does not agree is printed by its number.
-pub(crate) fn with_line(tally: Tally, agrees: bool) -> Tally {
+pub(crate) fn with_line(rt: &impl Print, tally: Tally, agrees: bool) -> io::Result<Tally> {
     let one = Tally {
         answers: 1,
         agree: agrees as u64,
     };
     let next = joined(tally, one);
     if !agrees {
-        io::write_all(STDOUT_FILENO, b"line ");
-        io::print_decimal(STDOUT_FILENO, next.answers);
-        io::write_all(STDOUT_FILENO, b" does not agree\n");
+        let line = next.answers;
+        println!(rt; "line {line} does not agree")?;
     }
-    next
+    Ok(next)
 }
 
 // Prints how many answers a file has, and how many agree.
-pub(crate) fn summary(name: &[u8], tally: Tally) {
-    io::write_all(STDOUT_FILENO, name);
-    io::write_all(STDOUT_FILENO, b": ");
-    io::print_decimal(STDOUT_FILENO, tally.answers);
-    io::write_all(STDOUT_FILENO, b" answers, ");
-    io::print_decimal(STDOUT_FILENO, tally.agree);
-    io::write_all(STDOUT_FILENO, b" agree\n");
+pub(crate) fn summary(rt: &impl Print, name: &str, tally: Tally) -> io::Result<()> {
+    let answers = tally.answers;
+    let agree = tally.agree;
+    println!(rt; "{name}: {answers} answers, {agree} agree")
 }

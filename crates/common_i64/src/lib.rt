@@ -1,8 +1,8 @@
 // Inner crate of primus_distr: the draws over a whole output that the Rust has in common/, binary.rs and ternary.rs, for one output type. It has no code
 // of its own: it names the draws of the families' crates, and the branch by method takes them from here.
-// Draws of 0 and 1.
 #![tactic(auto)]
 
+// Draws of 0 and 1.
 pub use binary_i64::draw::fill_binary;
 pub use block_binary_i64::draw::sample_block_binary_values_to;
 pub use fixed_weights_i64::fixed_weight::sample_fixed_hamming_weight_binary_values_to;

@@ -1,5 +1,5 @@
 -- The numbers of the moduli, one modulus after the other: what the first i leave is what decides.
-use Rattle.std.proofs.Common.{◌≡◌, ℕ, zero, suc, ◌+◌, ◌<◌, ◌≤◌, Bool, true, false, cond, eqb, leb, List, [], ◌∷◌, length, get_or, drop, refl, ◌∙◌, le_of_suc-le-suc, not-suc-le-zero, add-one, arith, drop_of_length-le, drop-cons, eq-eqb, ne_eqb, le-leb, leb-false}
+use Rattle.std.proofs.Common.{◌≡◌, ℕ, zero, suc, ◌+◌, ◌<◌, ◌≤◌, eqb, leb, List, [], ◌∷◌, length, get_or, drop, refl, ◌∙◌, le_of_suc-le-suc, not-suc-le-zero, add-one, drop_of_length-le, drop-cons, eq-eqb, ne_eqb, le-leb, leb-false}
 use borrow.Author.Tests.{lt-leb}
 use Rattle.distr.specs.Making.{refuse}
 use Rattle.distr.specs.Numbers.{first_of, modulus_number, moduli_numbers}

@@ -1,5 +1,5 @@
 -- Where the row of one modulus lies, and what stands there.
-use Rattle.std.proofs.Common.{◌≡◌, ℕ, ◌+◌, ◌-◌, ◌*◌, ◌≤◌, Bool, true, false, cond, ◌&&◌, eqb, ltb, List, [], length, take, drop, sym, refl, ◌∙◌, true≢false, arith, Bor, ltb-true, eqb-true}
+use Rattle.std.proofs.Common.{◌≡◌, ℕ, ◌+◌, ◌-◌, ◌*◌, ◌≤◌, Bool, true, false, cond, ◌&&◌, eqb, ltb, List, [], length, take, drop, refl, ◌∙◌, arith, Bor, ltb-true, eqb-true}
 use Rattle.distr.specs.Encoding.{has_row, row_start, row}
 use Rattle.distr.proofs.Reading.{both_true}
 use Rattle.crt.specs.declared.RowRange.{RowRange}

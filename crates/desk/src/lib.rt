@@ -92,8 +92,7 @@ fn draw_bytes(
 // Draws the question of a kind with its A, B and modulus from the words, which are bytes, from a place on into the output's bytes. The number is handed back;
 // a success moves the place and reports the words and the bytes skipped. Any other number leaves the place and reports zeros; 23 writes zeros over the
 // output, and every other refusal leaves it.
-#[unsafe(no_mangle)]
-pub extern "C" fn desk_draw(
+pub fn desk_draw(
     kind: u32,
     a: u32,
     b: u32,

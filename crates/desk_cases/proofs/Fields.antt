@@ -1,6 +1,6 @@
 -- Fields of bytes: what writing one leaves behind, and what reading one hands back.
 use Rattle.std.proofs.Common.{◌≡◌, ℕ, ◌*◌, ◌/◌, ◌%◌, ◌<◌, ◌≤◌, Bool, true, false, cond, not, ◌||◌, eqb, ltb, List, [], ◌∷◌, ◌++◌, length, get_or, take, set, sym, refl, ap, ◌∙◌, arith, length-append, take_at, ltb-false, eq-eqb, ne_eqb, eqb-true}
-use borrow.Author.Tests.{not-false}
+use Rattle.std.proofs.lemmas.Bool.{not-false}
 use Rattle.distr.proofs.Reading.{or_false}
 use Rattle.desk_cases.specs.Hexadecimal.{hex, shown, all_digits, bytes_in, unfit, is_field, Read}
 use Rattle.desk_cases.proofs.Hexadecimal.{hex-length, bytes-length}

@@ -1,6 +1,6 @@
 -- Bytes and their fields go one to one.
 use Rattle.std.proofs.Common.{◌≡◌, ℕ, zero, suc, ◌+◌, ◌-◌, ◌*◌, ◌/◌, ◌%◌, ◌<◌, ◌≤◌, Bool, true, false, cond, not, ◌&&◌, ◌||◌, ltb, leb, List, [], ◌∷◌, length, get_or, sym, refl, ap, ◌∙◌, ap₂, true≢false, arith, ltb-false, ltb-true, le-ltb, lt-ltb, eq-eqb, ne_eqb, eqb-true, le-leb, leb-true}
-use borrow.Author.Tests.{lt-leb, not-true}
+use Rattle.std.proofs.lemmas.Bool.{lt-leb, not-true}
 use Rattle.distr.proofs.Reading.{both_true}
 use Rattle.desk_cases.specs.Hexadecimal.{digit, hex, shown, is_digit, value_of, all_digits, bytes_in, unfit, is_field}
 use Rattle.desk_cases.specs.RoundTrip.{RoundTrip}

@@ -42,6 +42,10 @@ unfit most text = length text / 2 == 0 || not (length text % 2 == 0) || nat_lt m
 unfoldable pub is_field : ℕ → List ℕ → Bool
 is_field most text = cond (length text == 1) (slice_index text 0 == 45) (not (unfit most text) && all_digits text)
 
+-- A front of so many bytes lies within a text, and has that length.
+abbrev pub IsPrefixLen : ℕ → List ℕ → Type 0
+IsPrefixLen n text = (n ≤ length text) × (n ≡ length (take n text))
+
 -- What reading a field hands back, in a room for so many bytes: whether it is one, and how many bytes of it stand at the start of the room.
 pub record Read (text : List ℕ) (most : ℕ) (good : Bool) (count : ℕ) (room : List ℕ) : Type 0 where
   pub judged : good ≡ is_field most text

@@ -1,12 +1,12 @@
 // A request's answer, and what is printed of it.
 ghost use Rattle.std.specs.Prelude.{◌≡◌, ◌*◌, ◌<◌, ◌≤◌, length, take};
-ghost use Rattle.io.specs.Counts.{IsPrefixLen};
 ghost use Rattle.desk.specs.Desk.{desk_draw};
+ghost use Rattle.desk_cases.specs.Hexadecimal.{IsPrefixLen};
 ghost use Rattle.desk_cases.specs.Printed.{printed, printed_of};
 
 use crate::hex::write_field;
 use desk::desk_draw;
-use libc::STDOUT_FILENO;
+use std::io;
 
 // What is printed of an answer, but for the output's bytes: these stand at the start of a text, up to `end`.
 #[derive(Clone, Copy)]
@@ -59,17 +59,16 @@ pub(crate) fn draw(
 }
 
 // A number in decimal, and a space after it.
-fn print_number(value: u64) {
-    io::print_decimal(STDOUT_FILENO, value);
-    io::write_all(STDOUT_FILENO, b" ");
+fn print_number(rt: &impl Print, value: u64) -> io::Result<()> {
+    print!(rt; "{value} ")
 }
 
 // Prints an answer, whose output's bytes stand in a field.
-pub(crate) fn print(drawn: Drawn, field: &[u8]) {
-    print_number(drawn.number as u64);
-    print_number(drawn.place as u64);
-    print_number(drawn.skipped_words);
-    print_number(drawn.skipped_bytes);
-    io::write_all(STDOUT_FILENO, field);
-    io::write_all(STDOUT_FILENO, b"\n");
+pub(crate) fn print(rt: &impl Print, drawn: Drawn, field: &[u8]) -> io::Result<()> {
+    print_number(rt, drawn.number as u64)?;
+    print_number(rt, drawn.place as u64)?;
+    print_number(rt, drawn.skipped_words)?;
+    print_number(rt, drawn.skipped_bytes)?;
+    rt.write_all(field)?;
+    println!(rt)
 }

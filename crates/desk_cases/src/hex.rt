@@ -1,7 +1,6 @@
 // Bytes in lower-case hexadecimal, two digits a byte, and `-` for none.
 ghost use Rattle.std.specs.Prelude.{◌≡◌, ◌*◌, ◌<◌, ◌≤◌, length, take};
-ghost use Rattle.io.specs.Counts.{IsPrefixLen};
-ghost use Rattle.desk_cases.specs.Hexadecimal.{digit, hex, shown, is_digit, value_of, all_digits, bytes_in, Read};
+ghost use Rattle.desk_cases.specs.Hexadecimal.{digit, hex, shown, is_digit, value_of, all_digits, bytes_in, Read, IsPrefixLen};
 
 // The digit of a number below 16.
 fn digit_of(value: u8) -> u8
@@ -20,12 +19,10 @@ fn write_digits(values: &[u8], text: &mut [u8])
     ensures { text.new ≡ hex values.now }
 {
     let n = values.len();
-    let mut i = 0;
-    while i < n {
+    for i in 0..n {
         let value = values[i];
         text[2 * i] = digit_of(value / 16);
         text[2 * i + 1] = digit_of(value % 16);
-        i += 1;
     }
 }
 
@@ -70,12 +67,10 @@ fn value_of(byte: u8) -> u8
 fn all_digits(text: &[u8]) -> bool
     ensures { result ≡ all_digits text.now }
 {
-    let mut i = 0;
-    while i < text.len() {
-        if !is_digit(text[i]) {
+    for byte in text {
+        if !is_digit(*byte) {
             return false;
         }
-        i += 1;
     }
     true
 }
@@ -86,10 +81,8 @@ fn read_digits(text: &[u8], values: &mut [u8])
     ensures { values.new ≡ bytes_in text.now }
 {
     let n = values.len();
-    let mut i = 0;
-    while i < n {
+    for i in 0..n {
         values[i] = value_of(text[2 * i]) * 16 + value_of(text[2 * i + 1]);
-        i += 1;
     }
 }
 

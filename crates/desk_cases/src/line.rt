@@ -2,10 +2,10 @@
 ghost use Rattle.std.specs.Prelude.{◌≡◌, ◌≤◌, length};
 
 use crate::answer::{draw, print};
+use crate::find::find;
 use crate::hex::read_field;
 use crate::number::{MOST_64, read_number};
-use bytes::scan::find;
-use libc::STDOUT_FILENO;
+use std::io;
 
 // The largest number of 32 bits.
 const MOST_32: u64 = 0xffff_ffff;
@@ -39,7 +39,7 @@ fn number_at(line: &[u8], at: usize, most: u64) -> Item
     ensures next_in_bounds { result.next ≤ length line.now }
 {
     let size = line.len();
-    let end = find(line, at, size, b' ');
+    let end = find(line, at, b' ');
     let number = read_number(&line[at..end], most);
     if end == size {
         return Item {
@@ -88,12 +88,12 @@ fn read_numbers(line: &[u8]) -> Numbers
 }
 
 // Says that a line has another form.
-fn bad_line() {
-    io::write_all(STDOUT_FILENO, b"bad line\n");
+fn bad_line(rt: &impl Print) -> io::Result<()> {
+    println!(rt; "bad line")
 }
 
 // Answers a request: its numbers, its words, and the output as it is before the call.
-fn answer(numbers: Numbers, words: &[u8], output: &mut [u8])
+fn answer(rt: &impl Print, numbers: Numbers, words: &[u8], output: &mut [u8]) -> io::Result<()>
     requires { length output.old ≤ 33000 }
 {
     let mut text = text_room();
@@ -108,11 +108,11 @@ fn answer(numbers: Numbers, words: &[u8], output: &mut [u8])
         &mut text,
     );
     let end = drawn.end;
-    print(drawn, &text[..end]);
+    print(rt, drawn, &text[..end])
 }
 
 // Answers the request of two fields that follow the numbers.
-fn answer_fields(numbers: Numbers, words: &[u8], output: &[u8]) {
+fn answer_fields(rt: &impl Print, numbers: Numbers, words: &[u8], output: &[u8]) -> io::Result<()> {
     let mut words_room = bytes_room();
     let mut output_room = bytes_room();
     let words_read = read_field(words, &mut words_room);
@@ -120,26 +120,25 @@ fn answer_fields(numbers: Numbers, words: &[u8], output: &[u8]) {
     let word_bytes = words_read.count;
     let output_bytes = output_read.count;
     if !(numbers.good & words_read.good & output_read.good) {
-        bad_line();
-        return;
+        return bad_line(rt);
     }
     answer(
+        rt,
         numbers,
         &words_room[..word_bytes],
         &mut output_room[..output_bytes],
-    );
+    )
 }
 
 // Answers a line: after the numbers stand the words up to a space, and then the output.
-pub(crate) fn answer_line(line: &[u8]) {
+pub(crate) fn answer_line(rt: &impl Print, line: &[u8]) -> io::Result<()> {
     let size = line.len();
     let numbers = read_numbers(line);
     let at = numbers.next;
-    let end = find(line, at, size, b' ');
+    let end = find(line, at, b' ');
     if end == size {
-        bad_line();
-        return;
+        return bad_line(rt);
     }
     let next = end + 1;
-    answer_fields(numbers, &line[at..end], &line[next..]);
+    answer_fields(rt, numbers, &line[at..end], &line[next..])
 }

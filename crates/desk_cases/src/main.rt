@@ -3,15 +3,17 @@
 #![tactic(auto)]
 
 mod answer;
+mod find;
 mod hex;
 mod line;
 mod number;
 
 ghost use Rattle.std.specs.Prelude.{◌≡◌, length};
 
+use crate::find::find;
 use crate::line::answer_line;
-use bytes::scan::find;
-use libc::STDOUT_FILENO;
+use std::io;
+use std::rt::Files;
 
 // Room for a file of 150,000 bytes. What follows them is not read.
 fn file_room() -> [u8; 150000]
@@ -21,47 +23,33 @@ fn file_room() -> [u8; 150000]
 }
 
 // Answers the lines of a text, one after the other. A newline ends a line, and the text's end the last one.
-fn answer_text(text: &[u8]) {
+fn answer_text(rt: &impl Print, text: &[u8]) -> io::Result<()> {
     let size = text.len();
     let mut at = 0;
     while at < size {
-        let end = find(text, at, size, b'\n');
-        answer_line(&text[at..end]);
+        let end = find(text, at, b'\n');
+        answer_line(rt, &text[at..end])?;
         if end == size {
-            return;
+            break;
         }
         at = end + 1;
     }
+    Ok(())
 }
 
 // The name of a file, and the answers to its lines.
-fn answer_file(path: &[u8]) {
-    io::write_all(STDOUT_FILENO, b"== ");
-    io::write_all(STDOUT_FILENO, path);
-    io::write_all(STDOUT_FILENO, b"\n");
-    let fd = os::open_read(path);
-    if fd < 0 {
-        os::fail(path);
-        return;
-    }
+fn answer_file(rt: &(impl Files + Print + Eprint + Alloc), path: &str) -> io::Result<()> {
+    println!(rt; "== {path}")?;
     let mut text = file_room();
-    let size = io::read_full(fd, &mut text);
-    libc::close(fd);
-    answer_text(&text[..size]);
+    let Some(size) = full_read::read_file(rt, path, &mut text)? else {
+        return Ok(());
+    };
+    answer_text(rt, &text[..size])
 }
 
-// Answers the file that an argument names.
-fn answer_argument(i: usize) {
-    let mut path = io::buffer();
-    let end = os::arg(i, &mut path);
-    answer_file(&path[..end]);
-}
-
-fn main() {
-    let count = os::arg_count();
-    let mut i = 1;
-    while i < count {
-        answer_argument(i);
-        i += 1;
+fn main(rt: HostRuntime) -> io::Result<()> {
+    for path in std::env::args(&rt)?.skip(1) {
+        answer_file(&rt, full_read::path_of(path.as_str()))?;
     }
+    Ok(())
 }

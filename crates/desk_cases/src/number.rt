@@ -31,9 +31,8 @@ fn read_digits(text: &[u8], most: u64) -> Number
     ensures { result.value ≤ most }
 {
     let mut value: u64 = 0;
-    let mut i = 0;
-    while i < text.len() {
-        let digit = wide(std::num::wrapping_sub_u8(text[i], b'0'));
+    for byte in text {
+        let digit = wide(std::num::wrapping_sub_u8(*byte, b'0'));
         if 9 < digit {
             return none();
         }
@@ -41,7 +40,6 @@ fn read_digits(text: &[u8], most: u64) -> Number
             return none();
         }
         value = value * 10 + digit;
-        i += 1;
     }
     if most < value {
         return none();

@@ -1,20 +1,20 @@
 -- The draw of a sampler that making gives, signed or of residues: 22, 6, then what is asked of the length and the modulus, then the tables'
 -- number. A signed draw is one of residues that asks nothing of a modulus. Either is what a method draws that draws as its distribution does.
 use mathlib.Core.Path.{◌≡◌, refl, sym, ◌∙◌, ap}
-use mathlib.Core.Bool.{Bool, true, false, not}
+use mathlib.Core.Bool.{true, false}
 use mathlib.Core.List.{List, [], ◌∷◌, ◌++◌, map}
-use Prim.Native.Nat.{ℕ, zero, suc, ◌-◌, ◌<◌}
+use Prim.Native.Nat.{ℕ, zero, suc, ◌<◌}
 use native.Mathlib.Omega.{arith}
 use lib.ListN.{length, drop, replicate}
 use lib.IntN.{ℤ, pos}
 use Rattle.distr.specs.declared.error_distribution.ErrorDistribution.TheVariants.{CenteredBinomial, Gaussian}
 use Rattle.distr.specs.Constants.{never_made}
 use Rattle.distr.specs.Distribution.{Distr, secret, error, Tables, coefficients}
-use Rattle.distr.specs.Encoding.{encode, encode_with}
+use Rattle.distr.specs.Encoding.{encode}
 use Rattle.distr.specs.Making.{largest}
 use Rattle.distr.specs.Numbers.{first_of, past_end, too_long, length_number, modulus_number, table_number, layer_index, table_index}
 use Rattle.distr.specs.Draw.{Outcome, judged, drawn, naming, read_draw, signed_draw, residue_draw, encoded_draw}
-use Rattle.draw_laws.proofs.Joining.{first_alone, first-within, first_after, refused, settled_same}
+use Rattle.draw_laws.proofs.Joining.{first_alone, first-within, refused, settled_same}
 use Rattle.draw_laws.proofs.Crt.{crt_unmade}
 
 -- The distribution's number, of the length or of its tables; and what its rule draws by that number, for a caller that has no sampler.

@@ -1,7 +1,7 @@
 // Reading up to the length of a buffer: from a reader, or from the file of a name.
 #![tactic(auto)]
 
-ghost use Rattle.std.specs.Prelude.{◌≡◌, ◌<◌, ◌≤◌, length, take, IfOk, IfSome};
+ghost use Rattle.std.specs.Prelude.{◌≡◌, ◌<◌, ◌≤◌, [], cond, length, nat_lt, take, IfOk, IfSome};
 ghost use Rattle.std.specs.Io.KnownBytes.{Consumes, IsAtEnd};
 
 use std::io::Read;
@@ -58,4 +58,11 @@ pub fn read_file<R: Files + Eprint + Alloc>(
             Ok(None)
         }
     }
+}
+
+// The path that an argument names: no path has more than 4,096 bytes, and an argument that has names none.
+pub fn path_of(argument: &str) -> &str
+    ensures { result.now ≡ cond (nat_lt 4096 (length argument.now)) [] argument.now }
+{
+    if 4096 < argument.len() { "" } else { argument }
 }

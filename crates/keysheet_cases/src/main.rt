@@ -45,7 +45,7 @@ fn take_argument(rt: &impl Runtime, word: &str, skipped: bool) -> io::Result<boo
     if argument::is_skipped(word.as_bytes()) {
         return Ok(true);
     }
-    print_case(rt, word, skipped)?;
+    print_case(rt, full_read::path_of(word), skipped)?;
     Ok(skipped)
 }
 

@@ -56,9 +56,8 @@ fn answer_text(rt: &impl Print, text: &[u8]) -> io::Result<()> {
     Ok(())
 }
 
-// Answers the file that an argument names, after a line with its name. An argument of more than 4,096 bytes names none.
-fn answer_argument<R: Print + Eprint + Files + Alloc>(rt: &R, argument: &str) -> io::Result<()> {
-    let path = if 4096 < argument.len() { "" } else { argument };
+// Answers the file that an argument names, after a line with its name.
+fn answer_argument<R: Print + Eprint + Files + Alloc>(rt: &R, path: &str) -> io::Result<()> {
     println!(rt; "== {path}")?;
     let mut text = room::text_room();
     match read_file(rt, path, &mut text)? {
@@ -69,7 +68,7 @@ fn answer_argument<R: Print + Eprint + Files + Alloc>(rt: &R, argument: &str) ->
 
 fn main(rt: HostRuntime) -> io::Result<()> {
     for argument in env::args(&rt)?.skip(1) {
-        answer_argument(&rt, argument.as_str())?;
+        answer_argument(&rt, full_read::path_of(argument.as_str()))?;
     }
     Ok(())
 }

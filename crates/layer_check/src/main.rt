@@ -1,4 +1,4 @@
-// Judges layer tables that are typed from a dump: on standard input, or in the files that the arguments name, where `-` is standard input and a line
+// Judges layer tables that are typed from a dump (02 [6]): on standard input, or in the files that the arguments name, where `-` is standard input and a line
 // with the name stands before each answer. It prints the number, the index, and which entry of which list they name. README.md has the format.
 #![tactic(auto)]
 
@@ -105,7 +105,7 @@ fn main(rt: HostRuntime) -> io::Result<()> {
         return answer_input(&rt);
     }
     for path in paths {
-        answer_argument(&rt, path.as_str())?;
+        answer_argument(&rt, full_read::path_of(path.as_str()))?;
     }
     Ok(())
 }

@@ -15,6 +15,7 @@ use distr::refusal::{INVALID_CBD_ETA, INVALID_CBD_LENGTH};
 const N: usize = 256;
 
 // What refuses a call: 27, then 28. That 64 * eta fits is known once eta is.
+#[tactic(auto, unfolding(distr::specs::SamplePolyCbd::cbd_number, distr::specs::Numbers::first_of))]
 fn cbd_number(eta: u32, byte_length: usize, output_length: usize) -> u32
     ensures { result ≡ cbd_number eta byte_length output_length }
 {

@@ -4,7 +4,6 @@ use mathlib.Core.Path.{◌≡◌, refl, sym, ap, ◌∙◌}
 use mathlib.Core.Bool.{Bool, true, false, cond}
 use lib.Dec.{eqb}
 use lib.Ieee.{Float, round, le, lt, sub}
-use Rattle.distr.specs.Thresholds.{threshold}
 use Rattle.distr.specs.Making.{bad_probabilities, refuse, gaussian_number, secret_number, error_number}
 use Rattle.distr.proofs.Drawing.{not-refused}
 use Rattle.probability.specs.declared.MadeThreshold.{MadeThreshold}

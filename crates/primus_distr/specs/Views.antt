@@ -5,7 +5,7 @@ use Rattle.distr.specs.declared.error_distribution.ErrorDistribution.TheVariants
 use Rattle.distr.specs.Thresholds.{threshold}
 use Rattle.distr.specs.Constants.{literal, invalid_probabilities}
 use Rattle.distr.specs.Gaussian.{support}
-use Rattle.distr.specs.Making.{bad_probabilities, refuse, gaussian_number}
+use Rattle.distr.specs.Making.{bad_probabilities, gaussian_number}
 use Rattle.ternary.specs.declared.ternary.TernaryEnds.TheVariants.{General}
 use Rattle.ternary.specs.Sampler.{sampler_of}
 use Rattle.methods.specs.declared.SamplingMethod.TheVariants.{Ternary as TernaryMethod, Gaussian as GaussianMethod, CenteredBinomial as BinomialMethod}

@@ -1,4 +1,4 @@
-// The report over a modulus, limits and residues in decimal text: on standard input, or in the files that the arguments name, where `-` is
+// The report of 02 [2] over a modulus, limits and residues in decimal text: on standard input, or in the files that the arguments name, where `-` is
 // standard input and a line with the name stands before each answer. The report never refuses a good text (proofs/Accepting).
 #![tactic(auto)]
 
@@ -81,7 +81,7 @@ fn main(rt: HostRuntime) -> io::Result<()> {
         return answer_input(&rt);
     }
     for path in paths {
-        answer_named(&rt, path.as_str())?;
+        answer_named(&rt, full_read::path_of(path.as_str()))?;
     }
     Ok(())
 }

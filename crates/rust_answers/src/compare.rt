@@ -16,10 +16,8 @@ pub(crate) fn same(a: &[u64], b: &[u64]) -> bool
         return false;
     }
     let mut equal = true;
-    let mut i = 0;
-    while i < a.len() {
+    for i in 0..a.len() {
         equal = equal & (a[i] == b[i]);
-        i += 1;
     }
     equal
 }
@@ -37,10 +35,8 @@ fn digest(offset: u64, output: &[u64]) -> u64
     ensures { result ≡ digest_of offset 1 output.now }
 {
     let mut digest = 1;
-    let mut i = 0;
-    while i < output.len() {
-        digest = digest_with(digest, offset, output[i]);
-        i += 1;
+    for element in output {
+        digest = digest_with(digest, offset, *element);
     }
     digest
 }

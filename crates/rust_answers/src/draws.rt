@@ -1,12 +1,12 @@
 // The calls that the lines ask for, and whether their answers agree.
 use crate::compare::{agrees, same};
+use crate::draw_words::fill_words;
 use crate::line::{distr_of, moduli_of, words_of};
-use crate::numbers::{
+use crate::line_numbers::{
     ANSWER, BOUNDS, CURVE, ENDPOINTS, HEIGHTS, entries, kept, part, rest, size_at, value_at,
 };
 use crate::real::{fill_reals, reals_part};
 use crate::room::{coefficients_room, reals_room, residues_room, words_room};
-use crate::words::fill_words;
 use gaussian_core::encode::magnitude;
 
 // The most words and elements of an output that a line may ask for.
@@ -35,10 +35,8 @@ fn residue_at(coefficients: &[i64], i: usize) -> u64 {
 
 // Puts signed coefficients modulo 2^64 into an output.
 fn put_residues(coefficients: &[i64], output: &mut [u64]) {
-    let mut i = 0;
-    while i < output.len() {
+    for i in 0..output.len() {
         output[i] = residue_at(coefficients, i);
-        i += 1;
     }
 }
 

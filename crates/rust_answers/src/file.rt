@@ -1,10 +1,11 @@
 // A file of answers, byte by byte.
 use crate::draws::is_answered;
 use crate::line::is_table;
-use crate::numbers::{ANSWER, LAST, kept, put};
+use crate::line_numbers::{ANSWER, LAST, kept, put};
 use crate::reading::{Line, count_of, end_number, is_unread, unread, with_byte};
 use crate::room::numbers_room;
 use crate::tally::{Tally, empty, with_answer, with_table};
+use std::io;
 
 // What is counted so far, and the line that is being read.
 #[derive(Clone, Copy)]
@@ -14,58 +15,56 @@ struct State {
 }
 
 // Judges a line that has ended. One that is not well formed is kept without numbers, and so is no answer and no table.
-fn judge_line(tally: Tally, line: Line, room: &mut [u64]) -> Tally {
+fn judge_line(rt: &impl Print, tally: Tally, line: Line, room: &mut [u64]) -> io::Result<Tally> {
     let begin = line.begin;
     put(room, begin, LAST, count_of(line));
     if begin == ANSWER {
-        return with_answer(tally, is_answered(room));
+        return with_answer(rt, tally, is_answered(room));
     }
-    with_table(tally, is_table(kept(room, begin)))
+    with_table(rt, tally, is_table(kept(room, begin)))
 }
 
 // The state after a byte more. A newline ends a line, and a space a number.
-fn step(state: State, byte: u8, room: &mut [u64]) -> State {
+fn step(rt: &impl Print, state: State, byte: u8, room: &mut [u64]) -> io::Result<State> {
     let tally = state.tally;
     let line = state.line;
     if byte == b'\n' {
         let whole = end_number(line, room);
-        return State {
-            tally: judge_line(tally, whole, room),
+        return Ok(State {
+            tally: judge_line(rt, tally, whole, room)?,
             line: unread(),
-        };
+        });
     }
     if byte == b' ' {
-        return State {
+        return Ok(State {
             tally,
             line: end_number(line, room),
-        };
+        });
     }
-    State {
+    Ok(State {
         tally,
         line: with_byte(line, byte),
-    }
+    })
 }
 
 // Judges all lines of a text. What follows the last newline is an answer that does not agree.
-fn read_text(text: &[u8], room: &mut [u64]) -> Tally {
+fn read_text(rt: &impl Print, text: &[u8], room: &mut [u64]) -> io::Result<Tally> {
     let mut state = State {
         tally: empty(),
         line: unread(),
     };
-    let mut i = 0;
-    while i < text.len() {
-        state = step(state, text[i], room);
-        i += 1;
+    for byte in text {
+        state = step(rt, state, *byte, room)?;
     }
     let tally = state.tally;
     if is_unread(state.line) {
-        return tally;
+        return Ok(tally);
     }
-    with_answer(tally, false)
+    with_answer(rt, tally, false)
 }
 
 // Judges a file's text, with tables of its own.
-pub(crate) fn judge_text(text: &[u8]) -> Tally {
+pub(crate) fn judge_text(rt: &impl Print, text: &[u8]) -> io::Result<Tally> {
     let mut room = numbers_room();
-    read_text(text, &mut room)
+    read_text(rt, text, &mut room)
 }

@@ -1,8 +1,8 @@
 // The parts of a line. README.md states the format.
-use crate::numbers::{part, rest, size_at, value_at};
+use crate::draw_words::low_bits;
+use crate::line_numbers::{part, rest, size_at, value_at};
 use crate::real::{fill_reals, is_real, real};
 use crate::room::reals_room;
-use crate::words::low_bits;
 
 // A distribution as the calls name it, and whether it is well formed.
 #[derive(Clone, Copy)]

@@ -5,58 +5,47 @@
 #![tactic(auto)]
 
 mod compare;
+mod draw_words;
 mod draws;
 mod file;
 mod line;
-mod numbers;
+mod line_numbers;
 mod print;
 mod reading;
 mod real;
 mod room;
 mod tally;
-mod words;
 
 use room::text_room;
+use std::io;
+use std::rt::Files;
 use tally::Tally;
 
 // Judges a file. One that cannot be opened, or is too long, is an answer that does not agree.
-fn judge_file(name: &[u8]) -> Tally {
-    let fd = os::open_read(name);
-    if fd < 0 {
-        os::fail(name);
-        return tally::unread();
-    }
+fn judge_file(rt: &(impl Files + Print + Eprint + Alloc), name: &str) -> io::Result<Tally> {
     let mut bytes = text_room();
-    let size = io::read_full(fd, &mut bytes);
-    libc::close(fd);
+    let Some(size) = full_read::read_file(rt, name, &mut bytes)? else {
+        return Ok(tally::unread());
+    };
     if 131072 < size {
-        return tally::unread();
+        return Ok(tally::unread());
     }
-    file::judge_text(&bytes[0..size])
+    file::judge_text(rt, &bytes[0..size])
 }
 
 // Judges a file, and prints its totals.
-fn judge(name: &[u8]) -> Tally {
-    let tally = judge_file(name);
-    print::summary(name, tally);
-    tally
+fn judge(rt: &(impl Files + Print + Eprint + Alloc), name: &str) -> io::Result<Tally> {
+    let tally = judge_file(rt, name)?;
+    print::summary(rt, name, tally)?;
+    Ok(tally)
 }
 
-// Judges the file that an argument names.
-fn judge_argument(i: usize) -> Tally {
-    let mut path = io::buffer();
-    let end = os::arg(i, &mut path);
-    judge(&path[..end])
-}
-
-fn main() {
-    let count = os::arg_count();
+fn main(rt: HostRuntime) -> io::Result<()> {
     let mut total = tally::empty();
-    let mut i = 1;
-    while i < count {
-        total = tally::joined(total, judge_argument(i));
-        i += 1;
+    for name in std::env::args(&rt)?.skip(1) {
+        total = tally::joined(total, judge(&rt, full_read::path_of(name.as_str()))?);
     }
-    print::summary(b"total", total);
-    judge(b"altered.txt");
+    print::summary(&rt, "total", total)?;
+    judge(&rt, "altered.txt")?;
+    Ok(())
 }

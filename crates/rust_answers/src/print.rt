@@ -1,20 +1,15 @@
 // What the program prints.
 use crate::tally::Tally;
-use libc::STDOUT_FILENO;
+use std::io;
 
 // Prints the number of a line that is not well formed, or whose answer is not the stored one.
-pub(crate) fn tell(line: u64) {
-    io::write_all(STDOUT_FILENO, b"line ");
-    io::print_decimal(STDOUT_FILENO, line);
-    io::write_all(STDOUT_FILENO, b" does not agree\n");
+pub(crate) fn tell(rt: &impl Print, line: u64) -> io::Result<()> {
+    println!(rt; "line {line} does not agree")
 }
 
 // Prints how many answers a file has, and how many agree.
-pub(crate) fn summary(name: &[u8], tally: Tally) {
-    io::write_all(STDOUT_FILENO, name);
-    io::write_all(STDOUT_FILENO, b": ");
-    io::print_decimal(STDOUT_FILENO, tally.answers);
-    io::write_all(STDOUT_FILENO, b" answers, ");
-    io::print_decimal(STDOUT_FILENO, tally.agree);
-    io::write_all(STDOUT_FILENO, b" agree\n");
+pub(crate) fn summary(rt: &impl Print, name: &str, tally: Tally) -> io::Result<()> {
+    let answers = tally.answers;
+    let agree = tally.agree;
+    println!(rt; "{name}: {answers} answers, {agree} agree")
 }

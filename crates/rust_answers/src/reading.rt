@@ -1,6 +1,6 @@
 // Reading a line byte by byte. README.md states the format. A number −m is put into the room as 2^64 − m, and −0, which only a real has,
 // as 2^63.
-use crate::numbers::{LAST, begin_of, put, value_at};
+use crate::line_numbers::{LAST, begin_of, put, value_at};
 
 // 2^63: numbers from here on have a minus sign, where one is allowed.
 pub(crate) const SIGN: u64 = 0x8000_0000_0000_0000;

@@ -1,5 +1,5 @@
 // The f64 that two numbers m, e of a line stand for: m × 2^e.
-use crate::numbers::value_at;
+use crate::line_numbers::value_at;
 use crate::reading::SIGN;
 
 // A number without its sign.
@@ -18,10 +18,8 @@ pub(crate) fn is_real(m: u64, e: u64) -> bool {
 // An f64 multiplied so many times by a factor.
 fn scaled(x: f64, factor: f64, times: u64) -> f64 {
     let mut y = x;
-    let mut i = 0;
-    while i < times {
+    for _ in 0..times {
         y = y * factor;
-        i += 1;
     }
     y
 }
@@ -41,13 +39,11 @@ pub(crate) fn real(m: u64, e: u64) -> f64 {
 // Fills a room with the reals of a table, which begin at index 2 of its line; past its end these are 0. Hands back whether each is one.
 pub(crate) fn fill_reals(values: &[u64], room: &mut [f64; 5000]) -> bool {
     let mut good = true;
-    let mut i = 0;
-    while i < 5000 {
+    for i in 0..5000 {
         let m = value_at(values, 2 * i + 2);
         let e = value_at(values, 2 * i + 3);
         good = good & is_real(m, e);
         room[i] = real(m, e);
-        i += 1;
     }
     good
 }

@@ -1,5 +1,6 @@
 // Counting lines, answers, and answers that agree.
 use crate::print::tell;
+use std::io;
 
 // The number of lines, of answers among them, and of answers that agree.
 #[derive(Clone, Copy)]
@@ -37,7 +38,7 @@ pub(crate) fn joined(one: Tally, other: Tally) -> Tally {
 }
 
 // The counts after one answer more. An answer that does not agree is printed with its line number.
-pub(crate) fn with_answer(tally: Tally, agrees: bool) -> Tally {
+pub(crate) fn with_answer(rt: &impl Print, tally: Tally, agrees: bool) -> io::Result<Tally> {
     let one = Tally {
         lines: 1,
         answers: 1,
@@ -45,17 +46,17 @@ pub(crate) fn with_answer(tally: Tally, agrees: bool) -> Tally {
     };
     let next = joined(tally, one);
     if !agrees {
-        tell(next.lines);
+        tell(rt, next.lines)?;
     }
-    next
+    Ok(next)
 }
 
 // The counts after the line of a table. A line that is no table after all counts as an answer that does not agree.
-pub(crate) fn with_table(tally: Tally, is_table: bool) -> Tally {
+pub(crate) fn with_table(rt: &impl Print, tally: Tally, is_table: bool) -> io::Result<Tally> {
     if !is_table {
-        return with_answer(tally, false);
+        return with_answer(rt, tally, false);
     }
     let mut next = tally;
     next.lines = std::num::wrapping_add_u64(next.lines, 1);
-    next
+    Ok(next)
 }

@@ -1,5 +1,5 @@
 -- The centered value of a residue: its magnitude, its part of the sum, and whether it is within a limit.
-use Rattle.std.proofs.Common.{◌≡◌, ℕ, suc, ◌+◌, ◌-◌, ◌*◌, ◌/◌, ◌^◌, ◌<◌, ◌≤◌, Bool, true, false, leb, List, [], ◌∷◌, length, ℤ, pos, ◌+ℤ◌, sym, refl, ap, ◌∙◌, mul-zero, zero-add, mul-one, mul-add, arith, le-ltb, le-leb, leb-false, leb-true}
+use Rattle.std.proofs.Common.{◌≡◌, ℕ, suc, ◌+◌, ◌-◌, ◌*◌, ◌/◌, ◌^◌, ◌<◌, ◌≤◌, Bool, true, false, leb, List, [], ◌∷◌, length, pos, ◌+ℤ◌, sym, refl, ap, ◌∙◌, mul-zero, zero-add, mul-one, mul-add, arith, le-ltb, le-leb, leb-false, leb-true}
 use native.Mathlib.Nat.{sub-zero}
 use borrow.Author.Tests.{lt-leb}
 use lib.IntN.{sub_ℕ}

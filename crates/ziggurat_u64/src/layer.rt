@@ -7,7 +7,7 @@ use edge::Layer;
 
 // Layer i of the tables. The first layer's chord starts at 1.0, whatever the first height is.
 pub(crate) fn layer_at(endpoints: &[u64], heights: &[f64], i: usize) -> Layer
-    requires i_nonzero { (0 < i) × (i < length endpoints.now) × (i < length heights.now) }
+    requires i_in_bounds { (0 < i) × (i < length endpoints.now) × (i < length heights.now) }
     requires i_bound { (slice_index endpoints.now i < 2 ^ 32) × (slice_index endpoints.now (i - 1) < 2 ^ 32) }
     ensures { result ≡ layer_at (tables endpoints.now heights.now []) i }
 {

@@ -3,7 +3,6 @@ use mathlib.Core.Path.{◌≡◌, sym, ◌∙◌}
 use mathlib.Core.Bool.{true}
 use native.Mathlib.Omega.{arith}
 use borrow.Author.Rules.{rules}
-use borrow.Author.Tests.{not-true, not-false}
 use Rattle.centered_binomial.specs.Binomial.{is_made_binomial}
 use Rattle.centered_binomial.proofs.Made.{made-small}
 use Rattle.centered_binomial.proofs.Counting.{upper_fits}

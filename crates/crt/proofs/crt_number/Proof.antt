@@ -1,6 +1,6 @@
 -- `crt_number` judges the shape first, and leaves the order of the rest to `draw_number`.
 use Rattle.std.proofs.Common.{◌≡◌, ℕ, zero, suc, List, [], ◌∷◌, length, sym, refl, ◌∙◌, arith, rules}
-use Rattle.distr.specs.Numbers.{first_of, past_end, shape_number, too_long, moduli_numbers}
+use Rattle.distr.specs.Numbers.{first_of, past_end, shape_number, too_long}
 use Rattle.draw_laws.proofs.Joining.{first_alone}
 use Rattle.draw_laws.proofs.Crt.{shape_good, shape_bad}
 use Rattle.crt.proofs.crt_number.Statement.{statement}

@@ -1,7 +1,5 @@
 -- `validated_modulus` tells 21 first, then judges the modulus.
-use mathlib.Core.Path.{◌≡◌, sym, ◌∙◌}
-use mathlib.Core.List.{[], ◌∷◌}
-use Prim.Native.Nat.{ℕ, zero, suc}
+use mathlib.Core.Path.{sym, ◌∙◌}
 use Rattle.distr.specs.Numbers.{first_of}
 use Rattle.draw_laws.proofs.Joining.{first_alone}
 use borrow.Author.Rules.{rules}

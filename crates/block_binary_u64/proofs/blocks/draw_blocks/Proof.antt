@@ -1,7 +1,7 @@
 -- `blocks::draw_blocks` fills the output by one choice for each block. The loop's invariant: what is read from the words left now, behind
 -- the blocks that are filled, is what is read from those left at first, whatever −1 is held as, since no block has it. The measure is what is left of the words.
 use mathlib.Core.Path.{◌≡◌, ap, ◌∙◌}
-use Prim.Native.Nat.{◌+◌, ◌-◌, ◌*◌, ◌/◌, ◌%◌, ◌^◌, ◌<◌, ◌≤◌}
+use Prim.Native.Nat.{◌+◌, ◌-◌, ◌/◌, ◌≤◌}
 use native.Mathlib.Nat.{mod-le, mod-lt, lt_of_lt_of_le}
 use native.Mathlib.Numerals.{add-one}
 use native.Mathlib.Omega.{arith}

@@ -2,13 +2,12 @@
 use Rattle.std.proofs.Common.{◌≡◌, ◌<◌, max, false, T, sym, ap, ◌∙◌, subst, arith, rules}
 use lib.Ieee.{of_bits, round, lt}
 use lib.Ieee.Positive.{num, den, own_value}
-use borrow.Author.Tests.{not-true}
 use Rattle.distr.specs.Gaussian.{support}
 use Rattle.distr.specs.Constants.{support_limit}
 use Rattle.distr.specs.Making.{bad_deviation}
 use Rattle.probability.proofs.Truncating.{minus_one, power, truncated, above_minus_one}
 use Rattle.gaussian_core.specs.Made.{made_parameters}
-use Rattle.gaussian_core.proofs.Support.{product, product-positive, not-below-power, is_so}
+use Rattle.gaussian_core.proofs.Support.{product, product-positive, not-below-power}
 use Rattle.gaussian_core.proofs.Made.{made_large, made-small}
 use Rattle.gaussian_core.proofs.parameters.new_parameters.Statement.{statement}
 use Rattle.gaussian_core.proofs.parameters.new_parameters.Tie as tie

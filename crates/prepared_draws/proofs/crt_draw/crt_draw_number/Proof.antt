@@ -1,7 +1,6 @@
 -- `crt_draw_number` tries the method, and then the place and the layout.
-use mathlib.Core.Path.{◌≡◌, sym, ◌∙◌}
+use mathlib.Core.Path.{sym, ◌∙◌}
 use borrow.Author.Rules.{rules}
-use borrow.Author.Tests.{not-true, not-false}
 use Rattle.prepared_draws.proofs.Answers.{tried_method, tried_layout}
 use Rattle.prepared_draws.proofs.crt_draw.crt_draw_number.Statement.{statement}
 use Rattle.prepared_draws.proofs.crt_draw.crt_draw_number.Tie as tie

@@ -3,7 +3,6 @@ use mathlib.Core.Path.{sym, ap, ◌∙◌}
 use Prim.Native.Nat.{◌+◌, ◌-◌, ◌*◌, ◌≤◌}
 use native.Mathlib.Omega.{arith}
 use borrow.Author.Rules.{rules}
-use borrow.Author.Tests.{not-true, not-false}
 use lib.ListN.{length}
 use Rattle.residue_text.specs.Numbers.{is_digit}
 use Rattle.residue_text.proofs.Digits.{digit-bounds, Judged, judged_none, judged_more, judged-bad, judged_large, judged-all}
