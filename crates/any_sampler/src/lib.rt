@@ -50,6 +50,7 @@ fn make_error(distribution: ErrorDistribution) -> PreparedMethod
 
 impl AnyDistr {
     // The number of making its sampler, or 0 and the method that the sampler draws by; 14 where there is no distribution.
+    #[tactic(auto, unfolding(crate::specs::Either::preparing_any))]
     pub fn prepare(self) -> PreparedMethod
         ensures { result ≡ preparing_any self }
     {
