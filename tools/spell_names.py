@@ -4,7 +4,7 @@
 usage: python3 tools/spell_names.py [--list]     at the top of the repository, once, after the library's own port.py
 
 What turns: each name that a file of specs/ or proofs/ declares. A name whose type ends in `Type N` is a fact, and is spelled as a type. In a lemma's name a
-dash stays where it joins two names (of definitions here, or of the library), and is else an underscore. The proof of a Rattle function f is `f_spec`. Names of
+dash stays where it joins two names (of definitions here, or of the library), and is else an underscore; a field of specs/ has underscores alone, where no definition has that name. The proof of a Rattle function f is `f_spec`. Names of
 Rattle code, goals (behind `tie.`) and texts in quotes stay. --list prints the table and changes nothing; a name that would meet another is printed and stays.
 """
 import glob
@@ -45,7 +45,7 @@ def snake(word):
 
 
 def table():
-    facts, words, lemmas, specs_of = set(), set(), set(), {}
+    facts, words, lemmas, fields, specs_of = set(), set(), set(), set(), {}
     library, all_words = set(), {}
     for path in antt():
         text = open(path, encoding="utf-8").read()
@@ -62,7 +62,9 @@ def table():
             if "-" not in name and ("/specs/" in path or "abbrev" in before or "unfoldable" in before):
                 specs_of.setdefault(name, path)
             if "-" in name:
-                if not walks:
+                if "/specs/" in path:
+                    fields.add(name)
+                elif not walks:
                     lemmas.add(name)
                 elif name.endswith("-spec"):
                     specs_of.setdefault(name, path)
@@ -87,6 +89,10 @@ def table():
             out += rows.get(part, snake(part))
         if out != name:
             rows[name] = out
+    for name in fields:
+        plain = snake(name).replace("-", "_")
+        if plain not in names and plain not in rows.values():
+            rows[name] = plain
     for name, path in specs_of.items():
         if name.endswith("-spec"):
             rows[name] = os.path.basename(os.path.dirname(path)) + "_spec"

@@ -64,9 +64,9 @@ certificate = record {
   choices = λ k l u. record { each = choice_each k l; others = λ w h. choice_others k l w };
   polynomials = polynomials-counted;
   secret_key_draws = (λ κs before. refl, λ κs before answer after. refl);
-  error-draws = (λ κs before. refl, λ κs before answer after. refl);
+  error_draws = (λ κs before. refl, λ κs before answer after. refl);
   secret_key_making = (λ κs before. refl, λ κs before made after. refl);
-  error-making = (λ κs before. refl, λ κs before made after. refl);
+  error_making = (λ κs before. refl, λ κs before made after. refl);
   bounded_choice = (λ κs before. refl, λ κs before answer after. refl);
   polynomial_draws = (λ κs before. refl, λ κs before number after. refl);
 }

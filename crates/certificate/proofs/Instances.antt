@@ -56,7 +56,7 @@ inside_composition = refl
 
 carried : Carries (fixed_composition 1 1 4) (0 ∷ 0 ∷ []) 0 (0 ∷ 0 ∷ []) []
 unfolding map_read bind_read choose choose_each are_words count_up
-carried = record { are_words = tt; good-place = lit≤ tt; reads = refl }
+carried = record { are_words = tt; good_place = lit≤ tt; reads = refl }
 
 -- with eta 2 the polynomial of 0s alone is reached by C(4, 2) byte strings for each coefficient, that of 2s alone by the one string of bytes 0x33, and
 -- with eta 3 that of −1s by C(6, 2) for each

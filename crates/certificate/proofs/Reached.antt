@@ -152,7 +152,7 @@ module _ (made : Bool) (d : Distr) (n : ℕ) (bounds : List ℕ) (is_made : T ma
 
   all-counted : Counted ρ (inside d n) (formula d n bounds)
   unfolding ρ
-  all-counted = requests_counted d n (lending bounds) (what_passed d n (lending bounds) (is_made passes.0) ok.not-layered passes.1)
+  all-counted = requests_counted d n (lending bounds) (what_passed d n (lending bounds) (is_made passes.0) ok.not_layered passes.1)
 
   -- a call on words that carry a draw list answers 0, the place where the rules stop, and what the draw list decodes to
   answered : (tables : Tables) (words : List ℕ) (place : ℕ) (ds rest : List ℕ) (out : List ℤ)
@@ -163,10 +163,10 @@ module _ (made : Bool) (d : Distr) (n : ℕ) (bounds : List ℕ) (is_made : T ma
       ap (naming (table_index d tables))
       (judged-settled (first_of (state_numbers made (length words) place ++ signed_numbers d tables (length out))) place (length words) (length out) out
       (coefficients d (length out) tables (drop place words)) (ρ.decode ds) rest
-      (state_zero made (length words) place (signed_numbers d tables (length out)) passes.0 c.good-place
-      ∙ ap (λ (m : ℕ). first_of (signed_numbers d tables m)) e ∙ same_numbers d bounds tables n ok.not-layered f ∙ passes.1)
+      (state_zero made (length words) place (signed_numbers d tables (length out)) passes.0 c.good_place
+      ∙ ap (λ (m : ℕ). first_of (signed_numbers d tables m)) e ∙ same_numbers d bounds tables n ok.not_layered f ∙ passes.1)
       (ap (λ (m : ℕ). coefficients d m tables (drop place words)) e
-      ∙ (alike d bounds tables ok.not-layered f).reading n (drop place words) ∙ ap (map_read ρ.decode) c.reads))
+      ∙ (alike d bounds tables ok.not_layered f).reading n (drop place words) ∙ ap (map_read ρ.decode) c.reads))
 
   -- a draw list reaches what it decodes to
   reaches : (ds : List ℕ) → DrawList d n bounds ds → Reaches made d n bounds ds (ρ.decode ds)
@@ -217,7 +217,7 @@ answer-number false ns place word_count n out given e = rw e (settled-number wor
 pub accepted : (d : Distr) (n : ℕ) (tables : Tables) → first_of (signed_numbers d tables n) ≡ 0 → T (not (is_layered d)) → Accepted true d n tables.bounds
 unfolding signed_draw first_of
 accepted d n tables z no_layers = record {
-  not-layered = no_layers;
+  not_layered = no_layers;
   every_call = λ lent words place out o f e m.
       subst (λ (x : Outcome ℤ). (x.number ≡ 0) ⊎ (x.number ≡ 22) ⊎ (x.number ≡ 23)) (sym m)
       (answer-number (ltb (length words) place) (signed_numbers d lent (length out)) place (length words) (length out) out

@@ -39,7 +39,7 @@ CallFor d bounds tables = on_deviation d (λ deviation. tables.bounds) bounds �
 -- "It is accepted if only 22 and 23 can still refuse its signed draw." `made` says whether making gives the sampler, d is its distribution;
 -- `Meets` says what a call does.
 pub record Accepted (made : Bool) (d : Distr) (n : ℕ) (bounds : List ℕ) : Type 0 where
-  pub not-layered : T (not (is_layered d))
+  pub not_layered : T (not (is_layered d))
   pub every_call : (tables : Tables) (words : List ℕ) (place : ℕ) (out : List ℤ) (o : Outcome ℤ)
       → CallFor d bounds tables → length out ≡ n → Meets made d tables words place out o
       → (o.number ≡ 0) ⊎ (o.number ≡ 22) ⊎ (o.number ≡ 23)
@@ -114,12 +114,12 @@ pub record Certificate : Type 1 where
   -- the signed draws
   pub secret_key_draws : Contract 6 (SignedArguments SecretKeySampler) Answer (SignedCall is_made (λ s. secret s.distr))
       secret-key-sample-signed-to.Pre secret-key-sample-signed-to.Post
-  pub error-draws : Contract 6 (SignedArguments ErrorSampler) Answer (SignedCall is_made_error (λ s. error s.distribution))
+  pub error_draws : Contract 6 (SignedArguments ErrorSampler) Answer (SignedCall is_made_error (λ s. error s.distribution))
       error-sample-signed-to.Pre error-sample-signed-to.Post
   -- making
   pub secret_key_making : Contract 0 (SecretKeyDistr × Unit {0}) _ (λ before answer after. answer ≡ making before.0)
       secret-key-try-new.Pre secret-key-try-new.Post
-  pub error-making : Contract 0 (ErrorDistribution × Unit {0}) _ (λ before answer after. answer ≡ making_error before.0)
+  pub error_making : Contract 0 (ErrorDistribution × Unit {0}) _ (λ before answer after. answer ≡ making_error before.0)
       error-try-new.Pre error-try-new.Post
   -- the bounded choice
   pub bounded_choice : Contract 1 ChoiceArguments Taken BoundedChoice uniform-below.Pre uniform-below.Post

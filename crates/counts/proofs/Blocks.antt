@@ -194,7 +194,7 @@ block-binary-counted size n occupancy t h k e =
 
     carried : (ds : List ℕ) → T (in_box choices ds) → (words : List ℕ) × (rest : List ℕ) × Carries (block_binary size occupancy n) words 0 ds rest
     carried ds b =
-        (ds, [], record { are_words = choices_are_words choices ds good b; good-place = omega arith; reads = choices-carried choices ds good b })
+        (ds, [], record { are_words = choices_are_words choices ds good b; good_place = omega arith; reads = choices-carried choices ds good b })
 
     boxed : (words : List ℕ) (place : ℕ) (ds rest : List ℕ) → Carries (block_binary size occupancy n) words place ds rest → T (in_box choices ds)
     boxed words place ds rest c = choices_boxed choices (drop place words) ds rest good c.reads

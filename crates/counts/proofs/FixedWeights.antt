@@ -169,7 +169,7 @@ signed-counted h n l u =
       [],
       record {
         are_words = carrier_are_words ks 0 ds good b;
-        good-place = omega arith;
+        good_place = omega arith;
         reads = signed-carried ks 0 ds good b;
       },
     ))

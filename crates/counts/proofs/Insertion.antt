@@ -133,7 +133,7 @@ pub insertion-counted : (fill : ℤ) (values : List ℤ) (n : ℕ) (inside : Lis
 insertion-counted fill values n inside formula h u sums =
     counted (insertion fill values n) inside formula
     (λ cs. each-insertion values m (replicate m fill) (length-replicate m fill) cs ∙ sums cs)
-    (λ ds b. (ds, [], record { are_words = choices_are_words ks ds good b; good-place = omega arith; reads = choices-carried ks ds good b }))
+    (λ ds b. (ds, [], record { are_words = choices_are_words ks ds good b; good_place = omega arith; reads = choices-carried ks ds good b }))
     (λ words place ds rest c. choices_boxed ks (drop place words) ds rest good c.reads)
   where
     m : ℕ

@@ -195,7 +195,7 @@ module _ (base each : ℕ) where
     packed-carried : (ds : List ℕ) → T (in_box (replicate n base) ds)
         → (words : List ℕ) × (rest : List ℕ) × Carries (packed base each m n value) words 0 ds rest
     unfolding map_read
-    packed-carried ds t = (words, [], record { are_words = box_are_words m words (rw full at (pack_boxed m padded boxed)); good-place = omega arith; reads = reads })
+    packed-carried ds t = (words, [], record { are_words = box_are_words m words (rw full at (pack_boxed m padded boxed)); good_place = omega arith; reads = reads })
       where
         padded : List ℕ
         padded = ds ++ replicate (m * each - n) 0

@@ -180,7 +180,7 @@ uniform_ternary-counted n =
       [],
       record {
         are_words = carriers_are_words ((n + 4) / 5) ds t;
-        good-place = omega arith;
+        good_place = omega arith;
         reads = carriers_read ((n + 4) / 5) ds t;
       },
     )

@@ -84,7 +84,7 @@ pub wide-counted : (n : ℕ) (value : ℕ → ℤ) (ok : ℤ → Bool) (w : ℤ 
 wide-counted n value ok w h = counted (wide_words n value) (λ cs. list_of n ok cs) (λ cs. product_of w cs) (map_law n (2 ^ 64) value ok w h) carried boxed
   where
     carried : (ds : List ℕ) → T (in_box (replicate n (2 ^ 64)) ds) → (words : List ℕ) × (rest : List ℕ) × Carries (wide_words n value) words 0 ds rest
-    carried ds t = (halves ds, [], record { are_words = halves_are_words n ds t; good-place = omega arith; reads = halves_read n ds t })
+    carried ds t = (halves ds, [], record { are_words = halves_are_words n ds t; good_place = omega arith; reads = halves_read n ds t })
 
     boxed : (words : List ℕ) (place : ℕ) (ds rest : List ℕ) → Carries (wide_words n value) words place ds rest → T (in_box (replicate n (2 ^ 64)) ds)
     boxed words place ds rest c = wide_boxed n (drop place words) ds rest (are_words-drop words place c.are_words) c.reads
@@ -106,7 +106,7 @@ constant-counted v n = counted (constant v n) (λ cs. list_of n (same v) cs) (λ
     sums cs = rw (same-replicate v n cs) (bit-cond (list_of n (same v) cs))
 
     carried : (ds : List ℕ) → T (in_box [] ds) → (words : List ℕ) × (rest : List ℕ) × Carries (constant v n) words 0 ds rest
-    carried [] t = ([], [], record { are_words = tt; good-place = omega arith; reads = refl })
+    carried [] t = ([], [], record { are_words = tt; good_place = omega arith; reads = refl })
     carried (_ ∷ _) t = elim t [ ]
 
     boxed : (words : List ℕ) (place : ℕ) (ds rest : List ℕ) → Carries (constant v n) words place ds rest → T (in_box [] ds)

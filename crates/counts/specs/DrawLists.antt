@@ -14,7 +14,7 @@ in_box (r ∷ rs) (d ∷ ds) = ltb d r && in_box rs ds
 -- `rest` are the words left where the rules stop.
 pub record Carries (ρ : Rule) (words : List ℕ) (place : ℕ) (ds rest : List ℕ) : Type 0 where
   pub are_words : T (are_words words)
-  pub good-place : place ≤ length words
+  pub good_place : place ≤ length words
   pub reads : ρ.draws (drop place words) ≡ got ds rest
 
 -- 02 [3]: a byte string of n bytes, each below 256.

@@ -28,7 +28,7 @@ pub agreement : Agreement
 agreement = record {
   signed = λ words place out table division table_after division_after. same _ words place _ table division table_after division_after;
   residues = λ modulus words place out table division table_after division_after. same _ words place _ table division table_after division_after;
-  table-signed_calls = (λ κs before. refl, λ κs before answer after. refl);
+  table_signed_calls = (λ κs before. refl, λ κs before answer after. refl);
   division_signed_calls = (λ κs before. refl, λ κs before answer after. refl);
   table_residue_calls = (λ κs before. refl, λ κs before answer after. refl);
   division_residue_calls = (λ κs before. refl, λ κs before answer after. refl);

@@ -57,7 +57,7 @@ pub record Agreement : Type 1 where
       → MeetsResidues modulus words place out table table_after → MeetsResidues modulus words place out division division_after
       → Same table table_after division division_after
   -- And it is about this code.
-  pub table-signed_calls : Contract 2 SignedArguments Answer SignedCall table-signed.Pre table-signed.Post
+  pub table_signed_calls : Contract 2 SignedArguments Answer SignedCall table-signed.Pre table-signed.Post
   pub division_signed_calls : Contract 2 SignedArguments Answer SignedCall division-signed.Pre division-signed.Post
   pub table_residue_calls : Contract 2 ResidueArguments Answer ResidueCall table-residues.Pre table-residues.Post
   pub division_residue_calls : Contract 2 ResidueArguments Answer ResidueCall division-residues.Pre division-residues.Post
