@@ -1,79 +1,47 @@
 #!/usr/bin/env python3
 """One text for every output type.
 
-  one_text.py --check            says which source files differ from the text that they share
-  one_text.py --write FROM TO    writes the crates of type TO from those of FROM (i64 to i32, u64 to u32), sources and proofs
+  one_text.py --check            says which crates, or files of source, stand once for each type
 
-A storing loop is written over `Out`, the type that the crate `output_TYPE` names; of the crates NAME_TYPE, TYPE being i64, u64 and so on, every file of
-src/ is the same but for that ending. `output_TYPE` itself is what differs: the type, its zeros, and how a coefficient is held."""
+What an output holds is the trait `Output` of the crate `output`; every loop that stores is generic over it. So no crate is named after a type, and no two
+source files are the same text but for the names of types."""
 import re
 import sys
 from pathlib import Path
 
 ROOT = Path(__file__).resolve().parent.parent
 TYPES = ("i64", "u64", "i32", "u32")
-OWN = "output"          # the one crate of a type that is its own text
+ENDING = re.compile(r"_(" + "|".join(TYPES) + r")$")
+NAME = re.compile(r"(?<![A-Za-z0-9])(" + "|".join(TYPES) + r")(?![A-Za-z0-9])|(?<=[A-Za-z0-9])_(" + "|".join(TYPES) + r")\b")
+LEAST = 20              # a file of fewer lines is too short to be told apart
 
 
-def crates():
-    """The crates that stand once for each type: name without the ending → {type: folder}."""
-    found = {}
-    for folder in sorted((ROOT / "crates").iterdir()):
-        name, _, ending = folder.name.rpartition("_")
-        if ending in TYPES and name and name != OWN:
-            found.setdefault(name, {})[ending] = folder
-    return found
-
-
-def renamed(text, old, new):
-    """The text with the endings of crate names changed."""
-    return re.sub(rf"(?<=[A-Za-z0-9])_{old}\b", f"_{new}", text)
-
-
-def sources(folder):
-    return {path.relative_to(folder): path for path in sorted((folder / "src").rglob("*.rt"))}
+def plain(path):
+    """The text of a source file without the names of types and without what it imports."""
+    lines = [line for line in path.read_text().splitlines() if not re.match(r"\s*(ghost )?(pub(\(crate\))? )?use |\s*//", line)]
+    return NAME.sub("T", "\n".join(lines)), len(lines)
 
 
 def check():
-    """Prints each file that is not the shared text, or that names an output type; True where there is none."""
+    """Prints each crate named after a type and each pair of files of one text; True where there is none."""
     good = True
-    for name, folders in crates().items():
-        first, *others = folders
-        text = sources(folders[first])
-        for ending in others:
-            other = sources(folders[ending])
-            for path in sorted(set(text) | set(other)):
-                here = text.get(path)
-                there = other.get(path)
-                if here is None or there is None or renamed(here.read_text(), first, ending) != there.read_text():
-                    print(f"{name}_{ending}/{path} is not the text of {name}_{first}/{path}")
-                    good = False
+    for folder in sorted((ROOT / "crates").iterdir()):
+        if folder.is_dir() and ENDING.search(folder.name):
+            print(f"the crate {folder.name} is named after a type")
+            good = False
+    seen = {}
+    for path in sorted((ROOT / "crates").glob("*/src/**/*.rt")):
+        text, count = plain(path)
+        if count < LEAST:
+            continue
+        if text in seen:
+            print(f"{path.relative_to(ROOT)} is the text of {seen[text].relative_to(ROOT)}")
+            good = False
+        seen.setdefault(text, path)
     return good
 
 
-def write(old, new):
-    """Copies each crate of one type as a crate of another."""
-    for name, folders in crates().items():
-        if old not in folders:
-            continue
-        target = ROOT / "crates" / f"{name}_{new}"
-        for part in ("src", "specs", "proofs"):
-            for path in sorted((folders[old] / part).rglob("*")):
-                if path.is_file():
-                    copy = target / path.relative_to(folders[old])
-                    copy.parent.mkdir(parents=True, exist_ok=True)
-                    copy.write_text(renamed(path.read_text(), old, new))
-
-
-def main():
-    words = sys.argv[1:]
-    if words == ["--check"]:
-        sys.exit(0 if check() else 1)
-    if len(words) == 3 and words[0] == "--write" and words[1] in TYPES and words[2] in TYPES:
-        write(words[1], words[2])
-        return
-    sys.exit(__doc__)
-
-
 if __name__ == "__main__":
-    main()
+    if sys.argv[1:] == ["--check"]:
+        sys.exit(0 if check() else 1)
+    sys.exit(__doc__)

@@ -3,10 +3,11 @@ use Rattle.std.specs.Prelude.{ℕ, List}
 use Rattle.distr.specs.Constants.{invalid_sheet}
 use Rattle.distr.specs.Skipped.{Skipped, nothing}
 use Rattle.distr.specs.Distribution.{Distr, secret, error}
+use Rattle.distr.specs.Making.{making_number}
 use Rattle.distr.specs.Draw.{Outcome, at_once}
-use Rattle.methods.specs.declared.PreparedMethod.{PreparedMethod}
+use Rattle.methods.specs.declared.SamplingMethod.{SamplingMethod}
 use Rattle.methods.specs.declared.SamplingMethod.TheVariants.{Empty}
-use Rattle.method_draws.specs.Drawing.{preparing}
+use Rattle.method_draws.specs.Drawing.{prepared_method}
 use Rattle.any_sampler.specs.declared.AnyDistr.{AnyDistr}
 use Rattle.any_sampler.specs.declared.AnyDistr.TheVariants as Asked
 
@@ -15,11 +16,16 @@ abbrev pub any_of : Distr → AnyDistr
 any_of (secret d) = Asked.Secret d
 any_of (error d) = Asked.Error d
 
--- What making prepares; 14 where there is no distribution.
-unfoldable pub preparing_any : AnyDistr → PreparedMethod
-preparing_any (Asked.Secret d) = preparing (secret d)
-preparing_any (Asked.Error d) = preparing (error d)
-preparing_any Asked.Unknown = record { number = invalid_sheet; method = Empty }
+-- The number of making, 14 where there is no distribution; and the method that is prepared where that is 0.
+unfoldable pub any_number : AnyDistr → ℕ
+any_number (Asked.Secret d) = making_number (secret d)
+any_number (Asked.Error d) = making_number (error d)
+any_number Asked.Unknown = invalid_sheet
+
+unfoldable pub any_method : AnyDistr → SamplingMethod
+any_method (Asked.Secret d) = prepared_method (secret d)
+any_method (Asked.Error d) = prepared_method (error d)
+any_method Asked.Unknown = Empty
 
 -- A draw at once: 14, or the draw of the distribution with the number of making before those of the draw.
 unfoldable pub any_at_once : {A : Type 0} → AnyDistr → ℕ → List A → (Distr → Outcome A) → Outcome A

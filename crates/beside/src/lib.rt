@@ -16,7 +16,7 @@ mod report;
 mod signed;
 
 ghost use Rattle.std.specs.Prelude.{◌≡◌};
-ghost use Rattle.any_sampler.specs.Either.{preparing_any};
+ghost use Rattle.any_sampler.specs.Either.{any_number};
 ghost use Rattle.beside.specs.Calls.{named};
 
 pub use crt_draw::beside_crt;
@@ -27,7 +27,10 @@ pub use signed::beside_signed;
 
 // The number of making a sampler of a kind; 14 where the kind names no distribution.
 pub fn beside_make(kind: u32, a: usize, b: usize, p: f64, q: f64) -> u32
-    ensures { result ≡ (preparing_any (named kind a b p q)).number }
+    ensures { result ≡ any_number (named kind a b p q) }
 {
-    kind::by_kind(kind, a, b, p, q).prepare().number
+    match kind::by_kind(kind, a, b, p, q).prepare() {
+        Ok(_) => 0,
+        Err(why) => why.number(),
+    }
 }

@@ -10,13 +10,13 @@ ghost use Rattle.distr.specs.Draw.{crt_draw, crt_skips, encoded_draw, signed_dra
 ghost use Rattle.distr.specs.SamplePolyCbd.{sample_poly_cbd};
 ghost use Rattle.stats.specs.Report.{report};
 ghost use Rattle.signed_discrete_gaussian.specs.Lent.{lent};
-ghost use Rattle.any_sampler.specs.Either.{any_at_once, any_skips, preparing_any};
+ghost use Rattle.any_sampler.specs.Either.{any_at_once, any_skips, any_number};
 ghost use Rattle.beside.specs.Calls.{answered, named, report_of, written};
 
 // The number of making a sampler of a kind; 14 where the kind names no distribution.
 #[unsafe(no_mangle)]
 pub extern "C" fn beside_make(kind: u32, a: usize, b: usize, p: f64, q: f64) -> u32
-    ensures { result ≡ (preparing_any (named kind a b p q)).number }
+    ensures { result ≡ any_number (named kind a b p q) }
 {
     beside::beside_make(kind, a, b, p, q)
 }

@@ -1,11 +1,11 @@
 -- The rule of one threshold, and the value of a word by it.
-use mathlib.Core.Path.{◌≡◌, refl, sym, ap, fun_ext}
+use mathlib.Core.Path.{◌≡◌, refl}
 use mathlib.Core.Bool.{Bool, true, false, not, cond}
 use mathlib.Core.List.{List}
 use Prim.Native.Nat.{ℕ, ◌^◌, ◌<◌}
 use native.Mathlib.Omega.{arith}
 use lib.Dec.{ltb, eqb, lit<}
-use lib.IntN.{ℤ, pos}
+use lib.IntN.{pos}
 use mir.Val.{bool_byte}
 use borrow.Author.Tests.{ne_eqb}
 use Rattle.distr.specs.declared.threshold.Threshold.{Threshold}
@@ -13,7 +13,7 @@ use Rattle.distr.specs.Skipped.{nothing}
 use Rattle.distr.specs.Rule.{constant, wide_words}
 use Rattle.distr.specs.Thresholds.{binary_value, binary}
 use Rattle.words.specs.Reading.{threshold_value}
-use Rattle.numbers.specs.Answering.{wide_rule, wide_read}
+use Rattle.numbers.specs.Answering.{wide_rule}
 use Rattle.binary.specs.Below.{one_below}
 
 -- one threshold: the rule, and the value of a word
@@ -41,15 +41,11 @@ one-signed t w = go (ltb w t)
     go true = refl
     go false = refl
 
--- ones and zeros as an output holds them, by f
-pub below-held : {A : Type 0} (f : ℤ → A) (t n : ℕ) (words : List ℕ)
-    → wide_read (λ w. f (binary_value t w)) n words ≡ wide_read (λ w. f (pos (one_below t w))) n words
-below-held {A} f t n words = ap (λ (v : ℕ → A). wide_read v n words) (fun_ext (λ w. ap f (sym (one-signed t w))))
-
-pub one-small : (t w : ℕ) → one_below t w < 2
+-- and fits any element
+pub one_fits : (t w : ℕ) → one_below t w < 2 ^ 63
 unfolding one_below
-one-small t w = go (ltb w t)
+one_fits t w = go (ltb w t)
   where
-    go : (b : Bool) → bool_byte b < 2
+    go : (b : Bool) → bool_byte b < 2 ^ 63
     go true = lit< tt
     go false = lit< tt

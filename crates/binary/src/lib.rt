@@ -1,4 +1,6 @@
-// Inner crate of primus_distr. `Binary`: what the draws by one threshold of 64-bit words share, whatever their output holds.
+// Inner crate of primus_distr. `Binary`: ones and zeros by one threshold of 64-bit words, for every type of output.
 #![tactic(auto)]
 
 pub mod below;
+pub mod draw;
+mod store;

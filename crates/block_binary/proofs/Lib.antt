@@ -1,2 +1,2 @@
-pub mod Blocks
+pub mod Filling
 pub mod Refusals

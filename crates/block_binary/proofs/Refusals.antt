@@ -7,12 +7,9 @@ use native.Mathlib.Nat.{mod-zero, div-add-mod'}
 use native.Mathlib.Omega.{arith}
 use borrow.Author.Tests.{eqb-true, eqb-false, not-false}
 use lib.Dec.{eqb}
-use lib.ListN.{length, drop, replicate}
+use lib.ListN.{length, drop}
 use lib.IntN.{ℤ}
 use Rattle.distr.specs.declared.secret_key_distr.BlockOccupancy.{BlockOccupancy}
-use Rattle.distr.specs.declared.answer.Answer.{Answer}
-use Rattle.distr.specs.Answers.{sums, reported}
-use Rattle.distr.specs.Skipped.{skipped_words, passed_each}
 use Rattle.distr.specs.Blocks.{categories, block_binary}
 use Rattle.distr.specs.Constants.{output_limit}
 use Rattle.distr.specs.Numbers.{bad_blocks}
@@ -20,7 +17,7 @@ use Rattle.distr.specs.Draw.{Outcome, settled, rule_draw}
 use Rattle.distr.proofs.Reading.{or_false}
 use Rattle.distr.proofs.Drawing.{not-refused}
 use Rattle.numbers.proofs.Refusing.{draw_number, number_by, number_passed, rule-refused, rule-passed}
-use Rattle.block_binary.proofs.Blocks.{wanted}
+use Rattle.block_binary.proofs.Filling.{wanted}
 
 pub record Accepted (count place n size : ℕ) : Type 0 where
   pub within : place ≤ count
@@ -37,16 +34,15 @@ divides (suc p) n ne e = (omega arith, go (n / suc p) (omega (arith, div-add-mod
     go zero f = absurd (ne (omega arith))
     go (suc q) f = omega arith
 
--- the draw's own number is that of its blocks
-accepted : (count place n size : ℕ) {k : ℕ} → k ≡ draw_number count place n (bad_blocks size n) → k ≡ 0 → Accepted count place n size
-accepted count place n size number z =
-    let good = number_passed count place n (bad_blocks size n) number z in
+-- j is the number of the blocks, and k the first number that refuses the draw
+pub accepted : (count place n size : ℕ) {j k : ℕ} → j ≡ bad_blocks size n → k ≡ draw_number count place n j → k ≡ 0 → Accepted count place n size
+accepted count place n size {j} own told z =
+    let good = number_passed count place n (bad_blocks size n) (number_by count place n j (bad_blocks size n) own told) z in
     let d = or_false (eqb n 0) (not (eqb (n % size) 0)) (not-refused _ 7 good.2) in
     let whole = eqb-true (n % size) 0 (not-false (eqb (n % size) 0) d.1) in
     let size-good = divides size n (eqb-false n 0 d.0) whole in
     record { within = good.0; some = size-good.0; whole = whole; small = omega (arith, size-good.1, good.1) }
 
--- k is the first number that refuses the draw, by its own number j
 module _ {A : Type 0} (write : List ℤ → List A) (words : List ℕ) (place size : ℕ) (occupancy : BlockOccupancy) (out : List A) {j k : ℕ}
     (own : j ≡ bad_blocks size (length out)) (told : k ≡ draw_number (length words) place (length out) j) where
   abbrev promised : Outcome A
@@ -58,16 +54,9 @@ module _ {A : Type 0} (write : List ℤ → List A) (words : List ℕ) (place si
   pub refused : (k ≡ 0 → ⊥) → record { number = k; place = place; index = 0; output = out } ≡ promised
   refused = rule-refused write (bad_blocks size (length out)) words place out number (block_binary size occupancy (length out))
 
-  pub ready : k ≡ 0 → Accepted (length words) place (length out) size
-  ready = accepted (length words) place (length out) size number
-
-  -- what the blocks give is the draw, and what their choices pass over is what it skips
-  pub drawn : k ≡ 0 → {choices : ℕ} → choices ≡ categories size occupancy → (r : Answer) {o : Outcome A}
-      → (o ≡ settled write (length words) place (length out) (wanted size choices (length out) (drop place words)))
-      × (sums r ≡ reported r.number (skipped_words (passed_each (replicate (length out / size) choices) (drop place words))))
-      → (o ≡ promised) × (sums r ≡ reported r.number ((block_binary size occupancy (length out)).skips (drop place words)))
-  drawn z same r s = (
-    s.0 ∙ ap (λ (i : ℕ). settled write (length words) place (length out) (wanted size i (length out) (drop place words))) same
-        ∙ rule-passed write (bad_blocks size (length out)) words place out number (block_binary size occupancy (length out)) z,
-    rw same at s.1,
-  )
+  -- what the blocks give is the draw
+  pub drawn : k ≡ 0 → {choices : ℕ} → choices ≡ categories size occupancy → {o : Outcome A}
+      → o ≡ settled write (length words) place (length out) (wanted size choices (length out) (drop place words)) → o ≡ promised
+  drawn z same s =
+      s ∙ ap (λ (i : ℕ). settled write (length words) place (length out) (wanted size i (length out) (drop place words))) same
+      ∙ rule-passed write (bad_blocks size (length out)) words place out number (block_binary size occupancy (length out)) z

@@ -1,2 +1,5 @@
-// Inner crate of primus_distr. Block-binary values: what their draws share, whatever their output holds. There is no code here; proofs/ has the laws.
+// Inner crate of primus_distr: block-binary values, each block filled in its own part of the output, generic over the output's type.
 #![tactic(auto)]
+
+mod blocks;
+pub mod draw;

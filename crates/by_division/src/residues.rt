@@ -7,9 +7,10 @@ ghost use Rattle.distr.specs.Answers.{sums, reported};
 
 use distr::answer::{Answer, refused};
 use methods::SamplingMethod;
-use numbers::draw_number;
-use output_u64::Encoding;
-use prepared_draws::encoded::residue_number;
+use numbers::first_refusal;
+use output::Residues;
+use packed::ternary;
+use prepared_draws::encoded::check_residues;
 
 // -1, 0 and 1 with probability 1/3 each, by division.
 pub fn sample_uniform_ternary_values_by_division_to(
@@ -22,12 +23,11 @@ pub fn sample_uniform_ternary_values_by_division_to(
     ensures result_value { sums result ≡ reported result.number (skips_of (secret UniformTernary) (length output.old) no_tables (drop place words.now)) }
 {
     let method = SamplingMethod::UniformTernary;
-    let asked = residue_number(method, output.len(), modulus);
-    if asked != 0 {
-        let number = draw_number(words.len(), place, output.len(), asked);
-        return refused(number, place);
+    if let Err(why) = check_residues(method, output.len(), modulus) {
+        let first = first_refusal(words.len(), place, output.len(), why);
+        return refused(first, place);
     }
     let minus_one = modulus - 1;
-    let encoding = Encoding { minus_one };
-    common_u64::sample_uniform_ternary_values_by_division_to(output, encoding, words, place)
+    let encoding = Residues { minus_one };
+    ternary::sample_uniform_ternary_values_by_division_to(output, encoding, words, place)
 }

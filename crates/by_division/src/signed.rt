@@ -6,7 +6,8 @@ ghost use Rattle.distr.specs.Draw.{outcome, signed_at_once, no_tables};
 ghost use Rattle.distr.specs.Answers.{sums, reported};
 
 use distr::answer::Answer;
-use output_i64::Encoding;
+use output::Signed;
+use packed::ternary;
 
 // -1, 0 and 1 with probability 1/3 each, by division.
 pub fn sample_uniform_ternary_values_by_division_to(
@@ -17,6 +18,6 @@ pub fn sample_uniform_ternary_values_by_division_to(
     ensures output_after { outcome result output.new ≡ signed_at_once (secret UniformTernary) words.now place output.old }
     ensures result_value { sums result ≡ reported result.number (skips_of (secret UniformTernary) (length output.old) no_tables (drop place words.now)) }
 {
-    let encoding = Encoding {};
-    common_i64::sample_uniform_ternary_values_by_division_to(output, encoding, words, place)
+    let encoding = Signed {};
+    ternary::sample_uniform_ternary_values_by_division_to(output, encoding, words, place)
 }

@@ -3,6 +3,7 @@
 ghost use Rattle.std.specs.Prelude.{◌≡◌, length};
 
 use crate::compare::{HELD, agrees, value_at};
+use distr::refusal::number_of;
 use poly_cbd::sample_poly_cbd;
 
 // The most bytes, and the longest output, that a line may ask for.
@@ -49,7 +50,7 @@ fn is_sampled(eta: u32, bytes: &[u8], stored: &[u64]) -> bool {
     let length = n as usize;
     let mut room = output_room();
     let output = &mut room[0..length];
-    let number = sample_poly_cbd(output, eta, bytes);
+    let number = number_of(sample_poly_cbd(output, eta, bytes));
     agrees(rest(stored, 1), number, output)
 }
 

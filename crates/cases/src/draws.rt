@@ -2,9 +2,9 @@
 use crate::print;
 use centered_binomial::CenteredBinomialParameters;
 use common::signed;
+use distr::refusal::Refusal;
 use distr::secret_key_distr::BlockOccupancy;
 use std::io;
-use words::Taken;
 
 // Uniform binary values over the output, from a place.
 pub(crate) fn uniform_binary(
@@ -37,10 +37,12 @@ pub(crate) fn centered_binomial(
     words: &[u32],
 ) -> io::Result<()> {
     let mut output = [9i64; 1];
-    let made = CenteredBinomialParameters::new(eta);
-    let parameters = made.parameters;
-    let encoding = output_i64::Encoding {};
-    let answer = centered_binomial_i64::draw::sample_binomial_to(
+    let parameters = match CenteredBinomialParameters::new(eta) {
+        Ok(parameters) => parameters,
+        Err(why) => return print::line(rt, label, why.number(), 0, &output),
+    };
+    let encoding = output::Signed {};
+    let answer = centered_binomial::draw::sample_binomial_to(
         &mut output,
         encoding,
         parameters,
@@ -135,18 +137,14 @@ pub(crate) fn ternary_probabilities(
     print::line(rt, label, answer.number, answer.place, &output)
 }
 
-// A choice among 3, or 23 at the place where it was asked.
+// A choice among 3, or a refusal for want of words at the place where it was asked.
 pub(crate) fn choice(rt: &impl Print, label: &[u8], words: &[u32]) -> io::Result<()> {
     match words::uniform_below(words, 0, 3) {
-        Taken::Got {
-            value,
-            place,
-            skipped: _,
-        } => {
-            print::head(rt, label, 0, place as u64)?;
-            print::unsigned(rt, value)?;
+        Some(taken) => {
+            print::head(rt, label, 0, taken.place as u64)?;
+            print::unsigned(rt, taken.value)?;
         }
-        Taken::Short => print::head(rt, label, 23, 0)?,
+        None => print::head(rt, label, Refusal::OutOfWords.number(), 0)?,
     }
     print::end(rt)
 }
@@ -155,8 +153,8 @@ pub(crate) fn choice(rt: &impl Print, label: &[u8], words: &[u32]) -> io::Result
 pub(crate) fn cumulative(rt: &impl Print, label: &[u8], words: &[u32]) -> io::Result<()> {
     let bounds = [0u64, 4, 8, 0xffff_ffff_ffff_ffff];
     let mut output = [9i64; 4];
-    let encoding = output_i64::Encoding {};
-    let answer = cdt_i64::sample_cdt_to(&mut output, encoding, 2, &bounds, words, 0);
+    let encoding = output::Signed {};
+    let answer = cdt::sample_cdt_to(&mut output, encoding, 2, &bounds, words, 0);
     print::line(rt, label, answer.number, answer.place, &output)
 }
 
@@ -165,8 +163,8 @@ pub(crate) fn cumulative_residue(rt: &impl Print, label: &[u8]) -> io::Result<()
     let bounds = [0u64, 4, 8, 0xffff_ffff_ffff_ffff];
     let words = [2u32, 0];
     let mut output = [9u64; 1];
-    let encoding = output_u64::Encoding { minus_one: 4 };
-    let answer = cdt_u64::sample_cdt_to(&mut output, encoding, 2, &bounds, &words, 0);
+    let encoding = output::Residues { minus_one: 4 };
+    let answer = cdt::sample_cdt_to(&mut output, encoding, 2, &bounds, &words, 0);
     print::head(rt, label, answer.number, answer.place as u64)?;
     print::unsigned(rt, output[0])?;
     print::end(rt)
@@ -177,12 +175,14 @@ pub(crate) fn residues(rt: &impl Print, label: &[u8]) -> io::Result<()> {
     let words = [12u32, 0];
     let moduli = [5u64, 7];
     let mut last = [9u64; 1];
-    let made = CenteredBinomialParameters::new(2);
-    let parameters = made.parameters;
-    let encoding = output_u64::Encoding {
+    let parameters = match CenteredBinomialParameters::new(2) {
+        Ok(parameters) => parameters,
+        Err(why) => return print::refused(rt, label, why),
+    };
+    let encoding = output::Residues {
         minus_one: 0xffff_ffff_ffff_ffff,
     };
-    let drawn = centered_binomial_u64::draw::sample_binomial_to(
+    let drawn = centered_binomial::draw::sample_binomial_to(
         &mut last, encoding, parameters, &words, 0,
     );
     let mut output = [9, last[0]];

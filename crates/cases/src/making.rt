@@ -3,16 +3,18 @@ use crate::print;
 use centered_binomial::CenteredBinomialParameters;
 use std::io;
 
-// The number and M, which is 0 in the empty record of a refusal.
+// The number and M, for which 0 stands after a refusal.
 pub(crate) fn gaussian(rt: &impl Print, label: &[u8], deviation: f64) -> io::Result<()> {
-    let made = gaussian_core::parameters::new_parameters(deviation);
-    print::head(rt, label, made.number, made.parameters.maximum_magnitude)?;
-    print::end(rt)
+    match gaussian_core::parameters::new_parameters(deviation) {
+        Ok(parameters) => print::made(rt, label, parameters.maximum_magnitude),
+        Err(why) => print::refused(rt, label, why),
+    }
 }
 
-// The number and eta, which is 0 in the empty parameters of a refusal.
+// The number and eta, for which 0 stands after a refusal.
 pub(crate) fn centered_binomial(rt: &impl Print, label: &[u8], eta: u32) -> io::Result<()> {
-    let made = CenteredBinomialParameters::new(eta);
-    print::head(rt, label, made.number, made.parameters.eta as u64)?;
-    print::end(rt)
+    match CenteredBinomialParameters::new(eta) {
+        Ok(parameters) => print::made(rt, label, parameters.eta as u64),
+        Err(why) => print::refused(rt, label, why),
+    }
 }

@@ -1,5 +1,6 @@
 // Lines on standard output.
 use distr::answer::Answer;
+use distr::refusal::Refusal;
 use gaussian_core::encode::magnitude;
 use std::io;
 
@@ -12,6 +13,18 @@ pub(crate) fn head(rt: &impl Print, label: &[u8], number: u32, second: u64) -> i
 // The end of a line.
 pub(crate) fn end(rt: &impl Print) -> io::Result<()> {
     print!(rt; "\n")
+}
+
+// A whole line of a sampler that is made: what was derived for it.
+pub(crate) fn made(rt: &impl Print, label: &[u8], derived: u64) -> io::Result<()> {
+    head(rt, label, 0, derived)?;
+    end(rt)
+}
+
+// A whole line of a making that is refused.
+pub(crate) fn refused(rt: &impl Print, label: &[u8], why: Refusal) -> io::Result<()> {
+    head(rt, label, why.number(), 0)?;
+    end(rt)
 }
 
 // A space and a number.

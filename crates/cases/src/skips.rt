@@ -59,8 +59,10 @@ fn heights() -> [f64; 129] {
 // above the chord there, and the try is rejected. The second takes layer 2, no, passes over 2^32-1 and has magnitude 0, whose 64-bit word 2^63 is not
 // below the threshold 2^63: rejected. The third takes layer 3, yes, passes over 2^32-1 and has magnitude 3 among 7, inside layer 2: 3.
 pub(crate) fn layered(rt: &impl Print, label: &[u8]) -> io::Result<()> {
-    let made = gaussian_core::parameters::new_parameters(21.34);
-    let parameters = made.parameters;
+    let parameters = match gaussian_core::parameters::new_parameters(21.34) {
+        Ok(parameters) => parameters,
+        Err(why) => return print::refused(rt, label, why),
+    };
     let words = [
         1,
         0,
@@ -78,9 +80,9 @@ pub(crate) fn layered(rt: &impl Print, label: &[u8]) -> io::Result<()> {
         3,
     ];
     let mut output = [9i64; 1];
-    let answer = ziggurat_i64::sample_ziggurat_to(
+    let answer = ziggurat::sample_ziggurat_to(
         &mut output,
-        output_i64::Encoding {},
+        output::Signed {},
         parameters,
         &endpoints(),
         &heights(),

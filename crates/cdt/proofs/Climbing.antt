@@ -4,20 +4,15 @@ use mathlib.Core.Logic.{⊎_elim}
 use mathlib.Core.Bool.{Bool, true, false, cond}
 use mathlib.Core.List.{List}
 use Prim.Native.Nat.{ℕ, zero, suc, ◌+◌, ◌-◌, ◌*◌, ◌/◌, ◌^◌, ◌<◌, ◌≤◌}
-use native.Mathlib.Nat.{add_comm, add-zero, div-add-mod', eq-or-lt_of_le}
+use native.Mathlib.Nat.{add_comm, div-add-mod', eq-or-lt_of_le}
 use native.Mathlib.Numerals.{add-one}
 use native.Mathlib.Omega.{arith}
-use lib.Dec.{T, leb, ltb}
+use lib.Dec.{leb, ltb}
 use lib.ListN.{length, get_or, drop, set, replicate, length-set, length-replicate, length-take, length-drop, drop_of_length-le}
 use lib.Seq.{drop-cons, get_or-take, get_or-drop, get_or-set_same, get_or-set_other}
-use lib.IntN.{ℤ, pos}
-use lib.Signed.{mag}
-use mir.Syntax.{w64}
-use mir.Val.{Fits, bool_byte, to_z, of_z}
-use mir.Facts.{to_z-of_z}
-use borrow.Author.Rules.{sfits_of}
-use borrow.Author.Tests.{leb-true, leb-false, ltb-true, ltb-false, lt-ltb, le-ltb, le-leb, lt-leb}
-use Rattle.distr.specs.Encoding.{encode_with}
+use lib.IntN.{ℤ}
+use borrow.Author.Tests.{leb-true, leb-false, ltb-true, ltb-false, lt-ltb, le-ltb, lt-leb}
+use Rattle.std.proofs.lemmas.Float.{T_from_true}
 use Rattle.distr.specs.Gaussian.{cumulative_table, magnitude, with_sign, cumulative_value}
 use Rattle.distr.proofs.Rising.{Rising, is-rising, Largest, largest, rises}
 use Rattle.cdt.specs.declared.index.Sampled.{Sampled}
@@ -29,47 +24,26 @@ unfolding climbed
 climb_stop ends word at h l = rw (drop-cons ends at 0 h, lt-ltb word (get_or ends at 0) l)
 
 pub climb_on : (ends : List ℕ) (word at : ℕ) → at < length ends → get_or ends at 0 ≤ word
-    → climbed (drop at ends) word at ≡ climbed (drop (suc at) ends) word (suc at)
+    → climbed (drop (at + 1) ends) word (at + 1) ≡ climbed (drop at ends) word at
 unfolding climbed
-climb_on ends word at h l = rw (drop-cons ends at 0 h, le-ltb word (get_or ends at 0) l)
+climb_on ends word at h l = rw (add-one at, drop-cons ends at 0 h, le-ltb word (get_or ends at 0) l)
 
 -- past the last
 pub climb_end : (ends : List ℕ) (word at : ℕ) → length ends ≤ at → climbed (drop at ends) word at ≡ at
 unfolding climbed
 climb_end ends word at h = rw (drop_of_length-le ends {i = at} h)
 
--- the first step, by its three ways
+-- from where the first step goes on the search comes to where it comes from the place
 module _ (ends : List ℕ) (word place : ℕ) where
-  pub step_few : length ends < 64 → place ≡ first_step ends word place
-  step_few h = rw (lt-ltb (length ends) 64 h)
+  on : 64 ≤ length ends → place < length ends
+      → climbed (drop (first_step ends word place) ends) word (first_step ends word place) ≡ climbed (drop place ends) word place
+  on m h = rw (le-ltb (length ends) 64 m, lt-leb (length ends) place h) (go (leb (get_or ends place 0) word) refl)
+    where
+      go : (b : Bool) → leb (get_or ends place 0) word ≡ b
+          → climbed (drop (cond b (place + 1) place) ends) word (cond b (place + 1) place) ≡ climbed (drop place ends) word place
+      go true t = climb_on ends word place h (leb-true (get_or ends place 0) word t)
+      go false t = refl
 
-  pub step_past : 64 ≤ length ends → length ends ≤ place → place ≡ first_step ends word place
-  step_past m h = rw (le-ltb (length ends) 64 m, le-leb (length ends) place h)
-
-  pub step_fits : place < length ends → length ends * 8 < 2 ^ 63 → (b : Bool) → Fits w64 (place + bool_byte b)
-  step_fits h room true = record { fits = omega arith }
-  step_fits h room false = record { fits = omega arith }
-
-  module _ (m : 64 ≤ length ends) (h : place < length ends) where
-    made : first_step ends word place ≡ cond (leb (get_or ends place 0) word) (place + 1) place
-    made = rw (le-ltb (length ends) 64 m, lt-leb (length ends) place h)
-
-    pub step_made : place + bool_byte (leb (get_or ends place 0) word) ≡ first_step ends word place
-    step_made = added (leb (get_or ends place 0) word) ∙ sym made
-      where
-        added : (b : Bool) → place + bool_byte b ≡ cond b (place + 1) place
-        added true = refl
-        added false = add-zero place
-
-    on : climbed (drop (first_step ends word place) ends) word (first_step ends word place) ≡ climbed (drop place ends) word place
-    on = rw made (go (leb (get_or ends place 0) word) refl)
-      where
-        go : (b : Bool) → leb (get_or ends place 0) word ≡ b
-            → climbed (drop (cond b (place + 1) place) ends) word (cond b (place + 1) place) ≡ climbed (drop place ends) word place
-        go true t = rw (add-one place) (sym (climb_on ends word place h (leb-true (get_or ends place 0) word t)))
-        go false t = refl
-
-  -- the search comes from there to where it comes from the place
   pub step_same : climbed (drop (first_step ends word place) ends) word (first_step ends word place) ≡ climbed (drop place ends) word place
   step_same = go (ltb (length ends) 64) refl (leb (length ends) place) refl
     where
@@ -106,9 +80,9 @@ filling_more ends guide place k {found} f h e = record {
       (λ (p : j < k). get_or-set_other guide k j found 0 (λ q. omega arith) ∙ f.entries j p) (eq-or-lt_of_le (omega arith));
 }
 
-module _ (bounds : List ℕ) (top : ℕ) (t : T (cumulative_table top bounds)) where
+module _ (bounds : List ℕ) (top : ℕ) (t : cumulative_table top bounds ≡ true) where
   table : Rising (top + 2) (2 ^ 64 - 1) bounds
-  table = is-rising (top + 2) (2 ^ 64 - 1) bounds t
+  table = is-rising (top + 2) (2 ^ 64 - 1) bounds (T_from_true (cumulative_table top bounds) t)
 
   table-length : length bounds ≡ top + 2
   table-length = table.long
@@ -157,7 +131,7 @@ module _ (bounds : List ℕ) (top : ℕ) (t : T (cumulative_table top bounds)) w
   grows v w h = at_most w (magnitude bounds top v) (magnitude_top v) (omega (arith, (found v).reached))
 
   -- from a place that is not past it the search comes to the magnitude: it stops there, or goes on
-  step : (w j : ℕ) → j < top → j ≤ magnitude bounds top w → (suc j ≤ magnitude bounds top w → climbed (drop (suc j) ends) w (suc j) ≡ magnitude bounds top w)
+  step : (w j : ℕ) → j < top → j ≤ magnitude bounds top w → (j + 1 ≤ magnitude bounds top w → climbed (drop (j + 1) ends) w (j + 1) ≡ magnitude bounds top w)
       → climbed (drop j ends) w j ≡ magnitude bounds top w
   step w j h l on = go (ltb w (get_or bounds (j + 1) 0)) refl
     where
@@ -167,12 +141,12 @@ module _ (bounds : List ℕ) (top : ℕ) (t : T (cumulative_table top bounds)) w
       go : (b : Bool) → ltb w (get_or bounds (j + 1) 0) ≡ b → climbed (drop j ends) w j ≡ magnitude bounds top w
       go true t = climb_stop ends w j (omega (arith, long)) (rw end (ltb-true _ _ t)) ∙ stopped w j l h (ltb-true _ _ t)
       go false t =
-          climb_on ends w j (omega (arith, long)) (rw end (ltb-false _ _ t))
-          ∙ on (rw (← add-one j) (at_most w (j + 1) (omega arith) (ltb-false _ _ t)))
+          sym (climb_on ends w j (omega (arith, long)) (rw end (ltb-false _ _ t)))
+          ∙ on (at_most w (j + 1) (omega arith) (ltb-false _ _ t))
 
   climb : (w m j : ℕ) → j + m ≡ top → j ≤ magnitude bounds top w → climbed (drop j ends) w j ≡ magnitude bounds top w
   climb w zero j e h = climb_end ends w j (omega (arith, long)) ∙ at_top w j h (omega arith)
-  climb w (suc m) j e h = step w j (omega arith) h (climb w m (suc j) (omega arith))
+  climb w (suc m) j e h = step w j (omega arith) h (climb w m (j + 1) (omega arith))
 
   found_from : (w j : ℕ) → j ≤ magnitude bounds top w → climbed (drop j ends) w j ≡ magnitude bounds top w
   found_from w j h = climb w (top - j) j (omega (arith, magnitude_top w)) h
@@ -182,14 +156,6 @@ module _ (bounds : List ℕ) (top : ℕ) (t : T (cumulative_table top bounds)) w
   unfolding guide_at
   guide_entry zero = found_from 0 0 (omega arith)
   guide_entry (suc k) = rw (guide_entry k) (found_from (suc k * 2 ^ 56) _ (grows (k * 2 ^ 56) (suc k * 2 ^ 56) (omega arith)))
-
-  -- what is sampled by the guide of these intervals is the rule's coefficient
-  -- the bound after the top's is there
-  pub last_within : top + 1 ≤ length bounds
-  last_within = omega (arith, table-length)
-
-  pub last_fits : length bounds * 8 < 2 ^ 63 → Fits w64 (top + 1)
-  last_fits room = record { fits = omega (arith, table-length) }
 
   -- the coefficient of a word, by the ends as a draw cuts them out of the table and by their guide
   module _ (guide : List ℕ) (made : (k : ℕ) → k < 256 → get_or guide k 0 ≡ guide_at (interval_ends (top + 1 - 1) bounds) k)
@@ -208,12 +174,8 @@ module _ (bounds : List ℕ) (top : ℕ) (t : T (cumulative_table top bounds)) w
     value : with_sign s.positive s.magnitude ≡ cumulative_value top bounds w
     value = rw (reached, e)
 
-    -- as an i64 holds it, which holds both signs of it, and as a residue
-    pub sampled-signed : {r : ℤ} → mag r < 2 ^ 63 → length bounds * 8 < 2 ^ 63
-        → r ≡ cond (ltb s.magnitude (2 ^ 63)) (with_sign s.positive s.magnitude) (pos 0) → to_z w64 (of_z w64 r) ≡ cumulative_value top bounds w
-    sampled-signed fits room q =
-        let below : s.magnitude < 2 ^ 63 = rw reached (omega (arith, magnitude_top w, table-length)) in
-        to_z-of_z {w = w64} (sfits_of fits) ∙ (rw (lt-ltb s.magnitude (2 ^ 63) below) at q) ∙ value
-
-    pub sampled_encoded : (one : ℕ) {r : ℕ} → r ≡ encode_with one (with_sign s.positive s.magnitude) → r ≡ encode_with one (cumulative_value top bounds w)
-    sampled_encoded one q = q ∙ ap (encode_with one) value
+    -- as an output holds it, which holds a magnitude below 2^63 with its sign as the coefficient that it is
+    pub sampled_held : {A : Type 0} (one : ℤ → A) (sign : Bool → ℕ → A) → ((positive : Bool) (m : ℕ) → m < 2 ^ 63 → sign positive m ≡ one (with_sign positive m))
+        → length bounds * 8 < 2 ^ 63 → {r : A} → r ≡ sign s.positive s.magnitude → r ≡ one (cumulative_value top bounds w)
+    sampled_held one sign held room q =
+        q ∙ held s.positive s.magnitude (rw reached (omega (arith, magnitude_top w, table-length))) ∙ ap one value

@@ -5,7 +5,7 @@ use Prim.Native.Nat.{ℕ, ◌*◌, ◌/◌, ◌%◌, ◌^◌, ◌≤◌}
 use native.Mathlib.Nat.{add-zero}
 use native.Mathlib.Omega.{arith}
 use lib.Bits.{bit_and, and_mask, and_high}
-use lib.IntN.{pos, ◌-ℤ◌}
+use lib.IntN.{ℤ, pos, ◌-ℤ◌}
 use lib.Count.{ones, ones_cat}
 use lib.Pow.{pow_pos, ones_lt, high_ones, shl_exact}
 use Rattle.distr.specs.CenteredBinomial.{first_sum, second_sum, binomial_value}
@@ -39,11 +39,11 @@ module _ (s : CenteredBinomialParameters) (made : is_made_binomial s ≡ true) w
       let small : s.eta ≤ 32 = made-small s made in
       rw (made_mask s made) (shl_exact s.eta s.eta 64 (ones_lt s.eta) (omega arith))
 
-  -- the mask that `upper_mask` makes, and the difference of what `ones_of` counts under both
-  pub upper-made : {upper : ℕ} → upper ≡ cond (is_made_binomial s) (upper_mask s) 0 → upper ≡ upper_mask s
+  -- the mask that `upper_mask` makes
+  upper-made : {upper : ℕ} → upper ≡ cond (is_made_binomial s) (upper_mask s) 0 → upper ≡ upper_mask s
   upper-made e = e ∙ ap (λ (b : Bool). cond b (upper_mask s) 0) made
 
-  pub counted : (w : ℕ) {upper x y : ℕ} → upper ≡ cond (is_made_binomial s) (upper_mask s) 0 → x ≡ ones (bit_and w s.mask) → y ≡ ones (bit_and w upper)
-      → pos x -ℤ pos y ≡ binomial_value s.eta w
-  counted w {upper} e f g =
-      ap₂ (λ (x y : ℕ). pos x -ℤ pos y) (f ∙ low_count w) (g ∙ upper_count upper w (upper-made e))
+  -- what f gives for the difference of what `ones_of` counts under both masks
+  pub counted : {A : Type 0} (f : ℤ → A) (w : ℕ) {upper x y : ℕ} {v : A} → upper ≡ cond (is_made_binomial s) (upper_mask s) 0
+      → x ≡ ones (bit_and w s.mask) → y ≡ ones (bit_and w upper) → v ≡ f (pos x -ℤ pos y) → v ≡ f (binomial_value s.eta w)
+  counted f w {upper} e p q h = h ∙ ap₂ (λ (x y : ℕ). f (pos x -ℤ pos y)) (p ∙ low_count w) (q ∙ upper_count upper w (upper-made e))

@@ -11,7 +11,7 @@ use Rattle.distr.specs.Constants.{eta_limit}
 use Rattle.distr.specs.Making.{error_number}
 use Rattle.distr.proofs.Reading.{both_true}
 use Rattle.centered_binomial.specs.declared.CenteredBinomialParameters.{CenteredBinomialParameters}
-use Rattle.centered_binomial.specs.Binomial.{eta_number, parameters_of, making, is_made_binomial}
+use Rattle.centered_binomial.specs.Binomial.{eta_number, is_made_binomial}
 
 -- an eta that is not refused is 1 to 32
 pub eta_range : (eta : ℕ) → eqb (eta_number eta) 0 ≡ true → (1 ≤ eta) × (eta ≤ eta_limit)
@@ -30,17 +30,6 @@ eta_small eta e = (eta_range eta e).1
 -- 1 moved up by such an eta stays below 2^64
 pub one_up : (eta : ℕ) → eta ≤ eta_limit → 1 * 2 ^ eta % 2 ^ 64 ≡ 2 ^ eta
 one_up eta h = shl_exact 1 eta 64 (lit< tt) (omega arith) ∙ one-mul (2 ^ eta)
-
--- what making gives is the parameters themselves
-pub made_test : (s : CenteredBinomialParameters) → (eqb (making s.eta).number 0 && eqb s.mask (making s.eta).parameters.mask) ≡ is_made_binomial s
-made_test s = go (eqb (eta_number s.eta) 0)
-  where
-    unmade : CenteredBinomialParameters
-    unmade = record { eta = 0; mask = 0 }
-
-    go : (b : Bool) → (b && eqb s.mask (cond b (parameters_of s.eta) unmade).mask) ≡ (b && eqb s.mask (2 ^ s.eta - 1))
-    go true = refl
-    go false = refl
 
 -- parameters that making gives: both parts fit a word, and the mask is eta ones
 pub made-small : (s : CenteredBinomialParameters) → is_made_binomial s ≡ true → s.eta ≤ eta_limit

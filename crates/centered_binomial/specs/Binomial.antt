@@ -1,13 +1,14 @@
 -- The prepared state of the centered binomial: what making gives, and the whole answer of its draws.
-use Rattle.std.specs.Prelude.{ℕ, ◌+◌, ◌*◌, ◌-◌, ◌^◌, ◌≤◌, ◌≡◌, Bool, true, cond, ◌&&◌, List, eqb, length, ℤ}
+use Rattle.std.specs.Prelude.{ℕ, ◌+◌, ◌*◌, ◌-◌, ◌^◌, ◌≤◌, ◌≡◌, Bool, true, cond, ◌&&◌, List, eqb, length, ℤ, Result, Ok, Err}
 use Rattle.distr.specs.declared.error_distribution.ErrorDistribution.TheVariants.{CenteredBinomial as BinomialOf}
+use Rattle.distr.specs.declared.refusal.Refusal.{Refusal}
+use Rattle.distr.specs.declared.refusal.Refusal.TheVariants as Why
 use Rattle.distr.specs.Making.{error_number}
 use Rattle.distr.specs.CenteredBinomial.{centered_binomial}
 use Rattle.distr.specs.Constants.{never_made}
 use Rattle.distr.specs.Answers.{refusal}
 use Rattle.distr.specs.Draw.{Outcome, outcome, rule_draw}
 use Rattle.centered_binomial.specs.declared.CenteredBinomialParameters.{CenteredBinomialParameters}
-use Rattle.centered_binomial.specs.declared.MadeBinomial.{MadeBinomial}
 
 -- "Eta outside 1..32" is number 4.
 abbrev pub eta_number : ℕ → ℕ
@@ -17,9 +18,9 @@ eta_number eta = error_number (BinomialOf eta)
 abbrev pub parameters_of : ℕ → CenteredBinomialParameters
 parameters_of eta = record { eta = eta; mask = 2 ^ eta - 1 }
 
--- What making answers: the number, and the parameters or empty ones.
-abbrev pub making : ℕ → MadeBinomial
-making eta = record { number = eta_number eta; parameters = cond (eqb (eta_number eta) 0) (parameters_of eta) (record { eta = 0; mask = 0 }) }
+-- What making hands back: the parameters, where the number is 0.
+abbrev pub making : ℕ → Result CenteredBinomialParameters Refusal
+making eta = cond (eqb (eta_number eta) 0) (Ok (parameters_of eta)) (Err Why.InvalidEta)
 
 -- Making gives these parameters.
 abbrev pub is_made_binomial : CenteredBinomialParameters → Bool

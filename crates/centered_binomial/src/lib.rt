@@ -1,8 +1,10 @@
-// Inner crate of primus_distr: the prepared state of the centered binomial of FIPS 203, Algorithm 8, and how a word's ones are counted, for every
-// output type. A coefficient is the ones of eta bits minus the ones of the next eta bits, a 64-bit word for each.
+// Inner crate of primus_distr: the centered binomial of FIPS 203, Algorithm 8, its prepared state, how a word's ones are counted, and its draws over
+// every output. A coefficient is the ones of eta bits minus the ones of the next eta bits, a 64-bit word for each.
 #![tactic(auto)]
 
 pub mod deviation;
+pub mod draw;
+mod store;
 
 ghost use Rattle.std.specs.Prelude.{◌≡◌, cond};
 ghost use Rattle.std.specs.Int.Bits.{bit_and};
@@ -10,24 +12,17 @@ ghost use Rattle.std.specs.Int.Count.{ones};
 ghost use Rattle.centered_binomial.specs.Binomial.{making, is_made_binomial, upper_mask};
 
 use distr::limits::MAX_ETA;
-use distr::refusal::INVALID_ETA;
+use distr::refusal::Refusal;
 
 // What making prepares: eta, and a mask of eta ones.
-#[derive(Clone, Copy)]
+#[derive(Clone, Copy, Debug, PartialEq, Eq)]
 pub struct CenteredBinomialParameters {
     pub eta: u32,
     pub mask: u64,
 }
 
-// What making hands back: number 0 and the parameters, or 4 and empty ones.
-#[derive(Clone, Copy)]
-pub struct MadeBinomial {
-    pub number: u32,
-    pub parameters: CenteredBinomialParameters,
-}
-
 // The ones of the low eta bits of a word, and those of the next eta bits.
-#[derive(Clone, Copy)]
+#[derive(Clone, Copy, Debug, PartialEq, Eq)]
 pub struct Ones {
     pub first: u32,
     pub second: u32,
@@ -35,22 +30,17 @@ pub struct Ones {
 
 impl CenteredBinomialParameters {
     // Prepares an eta of 1 to 32, so that both parts fit one 64-bit word.
-    pub fn new(eta: u32) -> MadeBinomial
+    #[tactic(auto, using(crate::proofs::Made::one_up), unfolding(distr::specs::Making::error_number))]
+    pub fn new(eta: u32) -> Result<CenteredBinomialParameters, Refusal>
         ensures { result ≡ making eta }
     {
         if (1 <= eta) & (eta <= MAX_ETA) {
-            MadeBinomial {
-                number: 0,
-                parameters: CenteredBinomialParameters {
-                    eta: eta,
-                    mask: (1u64 << eta) - 1,
-                },
-            }
+            Ok(CenteredBinomialParameters {
+                eta,
+                mask: (1u64 << eta) - 1,
+            })
         } else {
-            MadeBinomial {
-                number: INVALID_ETA,
-                parameters: CenteredBinomialParameters { eta: 0, mask: 0 },
-            }
+            Err(Refusal::InvalidEta)
         }
     }
 }
@@ -59,11 +49,14 @@ impl CenteredBinomialParameters {
 pub fn is_made(parameters: CenteredBinomialParameters) -> bool
     ensures { result ≡ is_made_binomial parameters }
 {
-    let made = CenteredBinomialParameters::new(parameters.eta);
-    (made.number == 0) & (parameters.mask == made.parameters.mask)
+    match CenteredBinomialParameters::new(parameters.eta) {
+        Ok(made) => parameters == made,
+        Err(_) => false,
+    }
 }
 
 // The mask of the eta bits above those of the mask, or 0 for parameters that making never gives.
+#[tactic(auto, using(crate::proofs::Counting::upper_fits))]
 pub fn upper_mask(parameters: CenteredBinomialParameters) -> u64
     ensures { result ≡ cond (is_made_binomial parameters) (upper_mask parameters) 0 }
 {

@@ -1,10 +1,12 @@
 -- The contracts of the code that demand 3 is about: what a signed draw, a bounded choice and a polynomial from bytes promise of a call. Certificate ties each to its function.
-use Rattle.std.specs.Prelude.{ℕ, ◌≡◌, Bool, List, length, drop, ℤ, Float}
+use Rattle.std.specs.Prelude.{ℕ, ◌≡◌, Bool, List, length, drop, ℤ, Float, Option, Result}
 use Rattle.std.specs.Borrow.{Bor, MutBor}
 use Rattle.distr.specs.declared.answer.Answer.{Answer}
+use Rattle.distr.specs.declared.refusal.Refusal.{Refusal}
 use Rattle.distr.specs.Words.{choose}
 use Rattle.distr.specs.Skipped.{passed_over}
 use Rattle.distr.specs.Answers.{sums, reported}
+use Rattle.distr.specs.Refusals.{number_of}
 use Rattle.distr.specs.Distribution.{Distr, skips_of}
 use Rattle.distr.specs.Draw.{outcome, Meets}
 use Rattle.words.specs.declared.Taken.{Taken}
@@ -28,7 +30,7 @@ SignedCall is_made distr (self, (output, (bounds, (endpoints, (heights, (curve, 
 abbrev pub ChoiceArguments : Type 0
 ChoiceArguments = Bor (List ℕ) × (ℕ × (ℕ × Unit {0}))
 
-abbrev pub BoundedChoice : ChoiceArguments → Taken → ChoiceArguments → Type 0
+abbrev pub BoundedChoice : ChoiceArguments → Option Taken → ChoiceArguments → Type 0
 BoundedChoice (words, (place, (k, end))) answer after =
     answer ≡ taken (length words.now) (passed_over k (drop place words.now)) (choose k (drop place words.now))
 
@@ -36,5 +38,5 @@ BoundedChoice (words, (place, (k, end))) answer after =
 abbrev pub CbdArguments : Type 0
 CbdArguments = MutBor (List ℕ) × (ℕ × (Bor (List ℕ) × Unit {0}))
 
-abbrev pub CbdCall : CbdArguments → ℕ → CbdArguments → Type 0
-CbdCall (output, (eta, (bytes, end))) number (written, _) = MeetsCbd eta bytes.now output.now number written.now
+abbrev pub CbdCall : CbdArguments → Result (Unit {0}) Refusal → CbdArguments → Type 0
+CbdCall (output, (eta, (bytes, end))) answer (written, _) = MeetsCbd eta bytes.now output.now (number_of answer) written.now

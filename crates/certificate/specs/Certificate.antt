@@ -1,8 +1,9 @@
 -- Demand 3, whole: the record `Certificate` below is the claim, and the term `certificate` of proofs/Certificate is its proof. What it counts stands in
 -- the specs of `counts`: draw lists, which coefficient lists are inside a distribution, the formula. The rules stand in the specs of `distr`, and what the
 -- contracts of the code promise stands in CallPromises. The count of 02 [3], of byte strings, is a claim of the same record; it stands in Polynomials.
-use Rattle.std.specs.Prelude.{ℕ, ◌/◌, ◌^◌, ◌≤◌, ◌<◌, ◌≡◌, ◌⊎◌, Bool, not, cond, List, ◌∷◌, T, length, drop, ℤ}
+use Rattle.std.specs.Prelude.{ℕ, ◌/◌, ◌^◌, ◌≤◌, ◌<◌, ◌≡◌, ◌⊎◌, Bool, not, cond, List, ◌∷◌, T, length, drop, ℤ, Option, Result}
 use Rattle.distr.specs.declared.answer.Answer.{Answer}
+use Rattle.distr.specs.declared.refusal.Refusal.{Refusal}
 use Rattle.distr.specs.declared.secret_key_distr.SecretKeyDistr.{SecretKeyDistr}
 use Rattle.distr.specs.declared.secret_key_distr.SecretKeyDistr.TheVariants.{FixedCompositionTernary}
 use Rattle.distr.specs.declared.error_distribution.ErrorDistribution.{ErrorDistribution}
@@ -122,6 +123,6 @@ pub record Certificate : Type 1 where
   pub error_making : Contract 0 (ErrorDistribution × Unit {0}) _ (λ before answer after. answer ≡ making_error before.0)
       error-try-new.Pre error-try-new.Post
   -- the bounded choice
-  pub bounded_choice : Contract 1 ChoiceArguments Taken BoundedChoice uniform-below.Pre uniform-below.Post
+  pub bounded_choice : Contract 1 ChoiceArguments (Option Taken) BoundedChoice uniform-below.Pre uniform-below.Post
   -- the byte form
-  pub polynomial_draws : Contract 2 CbdArguments ℕ CbdCall sample-poly-cbd.Pre sample-poly-cbd.Post
+  pub polynomial_draws : Contract 2 CbdArguments (Result (Unit {0}) Refusal) CbdCall sample-poly-cbd.Pre sample-poly-cbd.Post

@@ -5,22 +5,14 @@ use Rattle.distr.specs.Encoding.{encode_with, rows}
 use Rattle.distr.specs.Numbers.{first_of, moduli_numbers}
 use Rattle.distr.specs.Draw.{Outcome, settled}
 use Rattle.draw_laws.proofs.Bounds.{Within}
-use Rattle.crt.specs.Rows.{last_row, spread_at, finished_at}
+use Rattle.crt.specs.Rows.{last_row, finished_at}
 use Rattle.crt.proofs.Moduli.{moduli-above}
 use Rattle.crt.proofs.Residues.{spread-encode, rows-zero}
 
-module _ (half : ℕ) (out : List ℕ) (count : ℕ) (moduli : List ℕ) (number place index : ℕ) {after : List ℕ} where
-  -- number 0
-  pub finished-rows : number ≡ 0 → after ≡ spread_at half out count moduli → ◌≡◌ {A = Outcome ℕ} (record { number = number; place = place; index = index; output = after }) (finished_at half out count moduli number place index)
-  finished-rows e h = rw (eq-eqb number 0 e, h)
-
-  -- number 23
-  pub finished-zeros : number ≡ 23 → after ≡ replicate (length out) 0 → ◌≡◌ {A = Outcome ℕ} (record { number = number; place = place; index = index; output = after }) (finished_at half out count moduli number place index)
-  finished-zeros e h = rw (ne_eqb number 0 (λ z. omega arith), eq-eqb number 23 e, h)
-
-  -- another number
-  pub finished-kept : (number ≡ 0 → ⊥) → (number ≡ 23 → ⊥) → after ≡ out → ◌≡◌ {A = Outcome ℕ} (record { number = number; place = place; index = index; output = after }) (finished_at half out count moduli number place index)
-  finished-kept e f h = rw (ne_eqb number 0 e, ne_eqb number 23 f, h)
+-- a draw whose last row was refused by another number than 0 and 23 leaves the output
+pub finished-kept : (half : ℕ) (out : List ℕ) (count : ℕ) (moduli : List ℕ) (number place index : ℕ) {after : List ℕ} → (number ≡ 0 → ⊥) → (number ≡ 23 → ⊥)
+    → after ≡ out → ◌≡◌ {A = Outcome ℕ} (record { number = number; place = place; index = index; output = after }) (finished_at half out count moduli number place index)
+finished-kept half out count moduli number place index e f h = rw (ne_eqb number 0 e, ne_eqb number 23 f, h)
 
 same_outcome : {m n p q i j : ℕ} {a b : List ℕ} → m ≡ n → p ≡ q → i ≡ j → a ≡ b
     → ◌≡◌ {A = Outcome ℕ} (record { number = m; place = p; index = i; output = a }) (record { number = n; place = q; index = j; output = b })

@@ -6,3 +6,4 @@ pub mod RowMaking
 pub mod Spreading
 pub mod Residues
 pub mod Finishing
+pub mod Numbers

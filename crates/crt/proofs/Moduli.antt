@@ -1,5 +1,5 @@
 -- The numbers of the moduli, one modulus after the other: what the first i leave is what decides.
-use Rattle.std.proofs.Common.{◌≡◌, ℕ, zero, suc, ◌+◌, ◌<◌, ◌≤◌, eqb, leb, List, [], ◌∷◌, length, get_or, drop, refl, ◌∙◌, le_of_suc-le-suc, not-suc-le-zero, add-one, drop_of_length-le, drop-cons, eq-eqb, ne_eqb, le-leb, leb-false}
+use Rattle.std.proofs.Common.{◌≡◌, ℕ, zero, suc, ◌+◌, ◌<◌, ◌≤◌, eqb, leb, List, [], ◌∷◌, length, get_or, drop, ◌∙◌, le_of_suc-le-suc, not-suc-le-zero, add-one, drop_of_length-le, drop-cons, eq-eqb, ne_eqb, le-leb, leb-false}
 use borrow.Author.Tests.{lt-leb}
 use Rattle.distr.specs.Making.{refuse}
 use Rattle.distr.specs.Numbers.{first_of, modulus_number, moduli_numbers}
@@ -9,9 +9,6 @@ module _ (most : ℕ) (moduli : List ℕ) where
   -- the first i moduli are passed
   pub record Passed (i : ℕ) : Type 0 where
     pub decides : first_of (moduli_numbers most moduli) ≡ first_of (moduli_numbers most (drop i moduli))
-
-  pub passed_none : Passed 0
-  passed_none = record { decides = refl }
 
   -- 10
   pub passed-zero : {i : ℕ} → Passed i → i < length moduli → get_or moduli i 0 ≡ 0 → first_of (moduli_numbers most moduli) ≡ 10

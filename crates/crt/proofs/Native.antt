@@ -12,14 +12,6 @@ module _ (half modulus : ℕ) where
   top_set : (w : ℕ) → half ≤ w → w < 2 * half → modulus * (w / half) ≡ modulus
   top_set w h k = rw (div-eq_of_lt-le {k = 1} half {m = w} (omega arith) (omega arith)) (mul-one modulus)
 
-  -- the modulus or 0
-  pub gated : (w : ℕ) → w < 2 * half → modulus * (w / half) ≤ modulus
-  gated w k = go (ltb w half) refl
-    where
-      go : (t : Bool) → ltb w half ≡ t → modulus * (w / half) ≤ modulus
-      go true e = omega (arith, unset w (ltb-true w half e))
-      go false e = omega (arith, top_set w (ltb-false w half e) k)
-
   wrapped : (w : ℕ) → modulus < 2 * half → w < 2 * half → (w + modulus) % (2 * half) ≡ wrapping_at half w modulus
   wrapped w h k = go (ltb (w + modulus) (2 * half)) refl
     where

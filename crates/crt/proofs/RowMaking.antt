@@ -1,21 +1,15 @@
 -- Making a row from the last one, element by element: what is still to be read is as it was, also where the row is the last one.
 use Rattle.std.proofs.Common.{◌≡◌, ℕ, ◌+◌, ◌-◌, ◌<◌, ◌≤◌, List, map, length, get_or, drop, set, sym, ap, ◌∙◌, add-one, arith, length-drop, get_or-drop}
 use lib.ListN.{length-map, get_or-map}
-use lib.Seq.{paste, paste-zero, paste-suc, length-paste, drop-paste}
+use lib.Seq.{paste, paste-suc, drop-paste}
 
 module _ {A : Type 0} (f : A → A) (out₀ : List A) (at last : ℕ) (before : at ≤ last) (inside : last ≤ length out₀) where
   -- the first j elements of the row are made
   pub record Made (j : ℕ) (out : List A) : Type 0 where
     pub holds : out ≡ paste out₀ at (map f (drop last out₀)) j
 
-  pub made_none : Made 0 out₀
-  made_none = record { holds = paste-zero out₀ at (map f (drop last out₀)) }
-
   length-made : length (map f (drop last out₀)) ≡ length out₀ - last
   length-made = length-map (drop last out₀) f ∙ length-drop last out₀
-
-  pub made-length : {j : ℕ} {out : List A} → j ≤ length out₀ - last → Made j out → length out ≡ length out₀
-  made-length {j} h s = ap length s.holds ∙ length-paste out₀ at (map f (drop last out₀)) j (omega arith) (rw length-made h)
 
   -- the element to be read next
   unread : {j : ℕ} {out : List A} (z : A) → j < length out₀ - last → Made j out → get_or out (last + j) z ≡ get_or out₀ (last + j) z

@@ -6,12 +6,13 @@ ghost use Rattle.std.specs.Prelude.{◌≡◌, ◌-◌, ◌*◌, ◌≤◌, ◌�
 ghost use Rattle.std.proofs.Math.Seq.{paste};
 ghost use Rattle.distr.specs.Numbers.{first_of, past_end, shape_number, too_long, moduli_numbers};
 ghost use Rattle.distr.specs.Draw.{outcome};
+ghost use Rattle.distr.specs.Refusals.{number_of};
 ghost use Rattle.crt.specs.Rows.{from_native, spread, finished};
 ghost use Rattle.crt.specs.Parts.{row_range, IsRow};
 
 use distr::answer::Answer;
-use distr::refusal::{INVALID_CRT_SHAPE, MODULUS_TOO_SMALL, MODULUS_ZERO, OUT_OF_WORDS};
-use numbers::draw_number;
+use distr::refusal::Refusal;
+use numbers::check_draw;
 
 // Whether n is coefficient_count * rows. Asked by division, since the product may not fit.
 fn has_shape(n: usize, coefficient_count: usize, rows: usize) -> bool
@@ -23,42 +24,38 @@ fn has_shape(n: usize, coefficient_count: usize, rows: usize) -> bool
     (n / rows == coefficient_count) & (n % rows == 0)
 }
 
-// The first number of the moduli, modulus by modulus: 10 for a modulus of 0, 9 for one that does not exceed the largest magnitude.
-fn moduli_number(moduli: &[u64], largest: u64) -> u32
-    ensures { result ≡ first_of (moduli_numbers largest moduli.now) }
+// Refuses moduli, modulus by modulus: 10 for a modulus of 0, 9 for one that does not exceed the largest magnitude.
+fn check_moduli(moduli: &[u64], largest: u64) -> Result<(), Refusal>
+    ensures { number_of result ≡ first_of (moduli_numbers largest moduli.now) }
 {
-    let mut i = 0;
-    while i < moduli.len() {
-        let modulus = moduli[i];
-        if modulus == 0 {
-            return MODULUS_ZERO;
+    for modulus in moduli {
+        if *modulus == 0 {
+            return Err(Refusal::ModulusZero);
         }
-        if modulus <= largest {
-            return MODULUS_TOO_SMALL;
+        if *modulus <= largest {
+            return Err(Refusal::ModulusTooSmall);
         }
-        i += 1;
     }
-    0
+    Ok(())
 }
 
-// The number of a CRT draw of `coefficient_count` coefficients into n elements, from `place` in `words` words: 22, 11 the shape, 6, then 10 and 9
+// Refuses a CRT draw of `coefficient_count` coefficients into n elements, from `place` in `words` words: 22, 11 the shape, 6, then 10 and 9
 // of the moduli. A bad shape is judged before the length, so the length is not looked at then.
-pub fn crt_number(
+pub fn check_crt(
     words: usize,
     place: usize,
     n: usize,
     coefficient_count: usize,
     moduli: &[u64],
     largest: u64,
-) -> u32
-    ensures { result ≡ first_of (past_end words place ∷ shape_number n coefficient_count (length moduli.now) ∷ too_long n
+) -> Result<(), Refusal>
+    ensures { number_of result ≡ first_of (past_end words place ∷ shape_number n coefficient_count (length moduli.now) ∷ too_long n
         ∷ moduli_numbers largest moduli.now) }
 {
     if has_shape(n, coefficient_count, moduli.len()) {
-        let asked = moduli_number(moduli, largest);
-        return draw_number(words, place, n, asked);
+        return check_draw(words, place, n, check_moduli(moduli, largest));
     }
-    draw_number(words, place, 0, INVALID_CRT_SHAPE)
+    check_draw(words, place, 0, Err(Refusal::InvalidCrtShape))
 }
 
 // The residue of a native one: the modulus is added, wrapping, where the top bit is set. No branch, since the sign is random.
@@ -76,11 +73,9 @@ fn make_row(output: &mut [u64], at: usize, last: usize, modulus: u64)
     ensures { output.new ≡ paste output.old at (map (from_native modulus) (drop last output.old)) (length output.old - last) }
 {
     let count = output.len() - last;
-    let mut c = 0;
-    while c < count {
+    for c in 0..count {
         let word = output[last + c];
         output[at + c] = from_native(modulus, word);
-        c += 1;
     }
 }
 
@@ -96,12 +91,9 @@ pub fn spread_rows(output: &mut [u64], coefficient_count: usize, moduli: &[u64])
     if has_shape(n, coefficient_count, rows) {
         let last = n - coefficient_count;
         let mut at = 0;
-        let mut i = 0;
-        while i < rows {
-            let modulus = moduli[i];
-            make_row(output, at, last, modulus);
+        for modulus in moduli {
+            make_row(output, at, last, *modulus);
             at += coefficient_count;
-            i += 1;
         }
     }
 }
@@ -131,14 +123,14 @@ pub fn finish(
     let number = answer.number;
     if number == 0 {
         spread_rows(output, coefficient_count, moduli);
-    } else if number == OUT_OF_WORDS {
-        output_u64::clear(output);
+    } else if number == Refusal::OutOfWords.number() {
+        output::clear(output);
     }
     answer
 }
 
 // Where the row of one modulus lies in an output: the index of its first element, and the one after its last.
-#[derive(Clone, Copy)]
+#[derive(Clone, Copy, Debug, PartialEq, Eq)]
 pub struct RowRange {
     pub start: usize,
     pub end: usize,

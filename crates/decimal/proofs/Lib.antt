@@ -1,6 +1,5 @@
 -- Laws that the proofs of this crate and of the crates above it share.
 pub mod Digits
-pub mod Division
 pub mod Front
 pub mod Halves
 pub mod RoundTrip

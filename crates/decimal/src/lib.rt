@@ -8,7 +8,7 @@ ghost use Rattle.decimal.specs.Decimal.{decimal, at_front, Counts};
 const PIECE: u64 = 0x1_0000_0000;
 
 // What a division by ten gives: the halves of the quotient, and the digit that is left.
-#[derive(Clone, Copy)]
+#[derive(Clone, Copy, Debug, PartialEq, Eq)]
 struct Quotient {
     high: u64,
     low: u64,
@@ -34,13 +34,13 @@ fn write_digits(high: u64, low: u64, text: &mut [u8]) -> usize
     requires { length (decimal (high * 2 ^ 64 + low)) ≤ length text.old }
     ensures { (result, text.new) ≡ at_front (decimal (high * 2 ^ 64 + low)) text.old }
 {
-    if (high == 0) & (low < 10) {
-        text[0] = 48 + low as u8;
+    if high == 0 && low < 10 {
+        text[0] = b'0' + low as u8;
         return 1;
     }
     let before = tenth(high, low);
     let end = write_digits(before.high, before.low, text);
-    text[end] = 48 + before.digit;
+    text[end] = b'0' + before.digit;
     end + 1
 }
 

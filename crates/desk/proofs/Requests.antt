@@ -5,7 +5,7 @@ use mathlib.Core.List.{List}
 use Prim.Native.Nat.{ℕ, ◌/◌, ◌%◌, ◌≤◌}
 use borrow.Author.Tests.{ltb-false, eqb-true, not-false}
 use lib.Dec.{ltb, eqb}
-use lib.ListN.{length, replicate}
+use lib.ListN.{length, take, replicate}
 use lib.IntN.{ℤ, pos}
 use Rattle.distr.specs.declared.answer.Answer.{Answer}
 use Rattle.distr.specs.Constants.{desk_coefficients, desk_words}
@@ -14,6 +14,7 @@ use Rattle.distr.specs.Answers.{sums, reported}
 use Rattle.distr.specs.Draw.{Outcome, outcome, writes}
 use Rattle.distr.proofs.Reading.{or_false}
 use Rattle.distr.proofs.Drawing.{not-refused}
+use Rattle.distr.proofs.Writing.{take-replicate}
 use Rattle.little_endian.specs.LittleEndian.{bytes_of}
 use Rattle.sheet_request.specs.Request.{question, question_skips}
 use Rattle.desk.specs.Desk.{desk_answer, bad_request, desk_number, drawn_answer}
@@ -39,6 +40,10 @@ good word_bytes output_bytes e =
       whole_output = eqb-true (output_bytes % 8) 0 (not-false (eqb (output_bytes % 8) 0) to-output.1);
       whole_words = eqb-true (word_bytes % 4) 0 (not-false (eqb (word_bytes % 4) 0) all.1);
     }
+
+-- the first n of the room's coefficients are zeros
+pub room_zeros : (n : ℕ) {room : List ℤ} → room ≡ replicate desk_coefficients (pos 0) → n ≤ desk_coefficients → take n room ≡ replicate n (pos 0)
+room_zeros n e few = ap (take n) e ∙ take-replicate n 4096 (pos 0) few
 
 -- the library's answer over zeros, and the bytes that are written, are the desk's answer
 pub answered : (kind a b modulus : ℕ) (words : List ℕ) (place : ℕ) (output : List ℕ) {r : Answer} {cs : List ℤ} {after : List ℕ}

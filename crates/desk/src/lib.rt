@@ -5,12 +5,13 @@
 
 ghost use Rattle.std.specs.Prelude.{◌≡◌, ◌/◌, ◌%◌, ◌≤◌, length, replicate, pos};
 ghost use Rattle.distr.specs.Constants.{desk_coefficients, desk_words};
+ghost use Rattle.distr.specs.Refusals.{number_of};
 ghost use Rattle.little_endian.specs.LittleEndian.{words_in};
 ghost use Rattle.desk.specs.Desk.{desk_number, desk_answer, drawn_answer, desk_draw};
 
 use distr::answer::Answer;
 use distr::limits::{MAX_DESK_COEFFICIENTS, MAX_DESK_WORDS};
-use distr::refusal::{INVALID_DESK_REQUEST, OUT_OF_WORDS};
+use distr::refusal::Refusal;
 use little_endian::coefficients::write_coefficients;
 use little_endian::words::read_words;
 use sheet_request::draw_question;
@@ -29,18 +30,19 @@ fn coefficients_room() -> [i64; 4096]
     [0; 4096]
 }
 
-// What refuses a request by the bytes of its words and its output: 29 for too many items, or for bytes that are no whole number of them.
-fn desk_number(word_bytes: usize, output_bytes: usize) -> u32
-    ensures { result ≡ desk_number word_bytes output_bytes }
+// Tests a request by the bytes of its words and its output: 29 for too many items, or for bytes that are no whole number of them.
+#[tactic(auto, unfolding(crate::specs::Desk::desk_number))]
+fn check_desk(word_bytes: usize, output_bytes: usize) -> Result<(), Refusal>
+    ensures { number_of result ≡ desk_number word_bytes output_bytes }
 {
     if (MAX_DESK_COEFFICIENTS < output_bytes / 8)
         | (MAX_DESK_WORDS < word_bytes / 4)
         | (output_bytes % 8 != 0)
         | (word_bytes % 4 != 0)
     {
-        return INVALID_DESK_REQUEST;
+        return Err(Refusal::InvalidDeskRequest);
     }
-    0
+    Ok(())
 }
 
 // Draws the question into room of its own, and writes the coefficients as bytes, with 0 and with 23 alone.
@@ -62,7 +64,7 @@ fn draw(
     let coefficients = &mut room[..n];
     let answer = draw_question(kind, a, b, modulus, coefficients, words, place);
     let number = answer.number;
-    if (number == 0) | (number == OUT_OF_WORDS) {
+    if (number == 0) | (number == Refusal::OutOfWords.number()) {
         write_coefficients(output, coefficients);
     }
     answer
@@ -92,6 +94,7 @@ fn draw_bytes(
 // Draws the question of a kind with its A, B and modulus from the words, which are bytes, from a place on into the output's bytes. The number is handed back;
 // a success moves the place and reports the words and the bytes skipped. Any other number leaves the place and reports zeros; 23 writes zeros over the
 // output, and every other refusal leaves it.
+#[tactic(auto, unfolding(crate::specs::Desk::desk_draw))]
 pub fn desk_draw(
     kind: u32,
     a: u32,
@@ -108,9 +111,8 @@ pub fn desk_draw(
 {
     *skipped_words = 0;
     *skipped_bytes = 0;
-    let number = desk_number(words.len(), output.len());
-    if number != 0 {
-        return number;
+    if let Err(why) = check_desk(words.len(), output.len()) {
+        return why.number();
     }
     let answer = draw_bytes(kind, a, b, modulus, words, output, *place);
     *place = answer.place;

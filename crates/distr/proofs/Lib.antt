@@ -10,3 +10,4 @@ pub mod BitSums
 pub mod Rising
 pub mod Probabilities
 pub mod FirstWrong
+pub mod Refusals

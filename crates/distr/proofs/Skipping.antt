@@ -8,10 +8,13 @@ use borrow.Author.Tests.{ne_eqb, eqb-true}
 use lib.Dec.{eqb}
 use lib.ListN.{length, length-drop}
 use Rattle.distr.specs.declared.answer.Answer.{Answer}
+use Rattle.distr.specs.declared.refusal.Refusal.{Refusal}
 use Rattle.distr.specs.Words.{Read, got, short, map_read, bind_read, choose, choose_each}
 use Rattle.distr.specs.Skipped.{Skipped, nothing, skipped_words, skipped_bytes, passed_over, passed_after, passed_each}
-use Rattle.distr.specs.Answers.{success_after, refusal_at, sums, reported}
+use Rattle.distr.specs.Answers.{success, success_after, refusal, refusal_at, sums, reported}
+use Rattle.distr.specs.Refusals.{number}
 use Rattle.distr.proofs.Reading.{short-not-got, chose}
+use Rattle.distr.proofs.Refusals.{refuses}
 
 -- ---- how many words choices take
 
@@ -62,6 +65,13 @@ pub reports_nothing : (r : Answer) → sums r ≡ nothing → sums r ≡ reporte
 reports_nothing r e = e ∙ reported-nothing r.number
 
 -- a success reports its words
+-- A success that skipped nothing, and a refusal, report what they should.
+pub success_reports : {r : Answer} {after : ℕ} {s : Skipped} → r ≡ success after → s ≡ nothing → sums r ≡ reported r.number s
+success_reports {r} is none = rw none (reports_nothing r (rw is refl))
+
+pub refusal_reports : {r : Answer} (why : Refusal) {place : ℕ} (s : Skipped) → r ≡ refusal (number why) place → sums r ≡ reported r.number s
+refusal_reports {r} why {place} s is = reports_refused s (refuses why) is
+
 pub reports_words : {r : Answer} {place k j : ℕ} → r ≡ success_after place (skipped_words k) → k ≡ j → sums r ≡ reported r.number (skipped_words j)
 unfolding reported
 reports_words e f = rw (e, f)

@@ -1,5 +1,6 @@
 -- Document 01 as definitions, in its order, each request of document 02 beside what it speaks of. What a reader must believe stands in these files.
 pub mod Constants
+pub mod Refusals
 pub mod Words
 pub mod Skipped
 pub mod Answers

@@ -3,8 +3,11 @@
 // the functions below.
 ghost use Rattle.std.specs.Prelude.{◌≡◌};
 ghost use Rattle.distr.specs.Answers.{refusal, refusal_at, success, success_after};
+ghost use Rattle.distr.specs.Refusals.{number};
 
-#[derive(Clone, Copy)]
+use crate::refusal::Refusal;
+
+#[derive(Clone, Copy, Debug, PartialEq, Eq)]
 pub struct Answer {
     pub number: u32,
     pub place: usize,
@@ -14,11 +17,11 @@ pub struct Answer {
 }
 
 // A refused draw: its number, the place as it was, and the index that goes with the number. It reports nothing skipped.
-pub fn refused_at(number: u32, place: usize, index: usize) -> Answer
-    ensures { result ≡ refusal_at number place index }
+pub fn refused_at(why: Refusal, place: usize, index: usize) -> Answer
+    ensures { result ≡ refusal_at (number why) place index }
 {
     Answer {
-        number,
+        number: why.number(),
         place,
         index,
         skipped_words: 0,
@@ -27,10 +30,10 @@ pub fn refused_at(number: u32, place: usize, index: usize) -> Answer
 }
 
 // A draw refused by a number that names no index.
-pub fn refused(number: u32, place: usize) -> Answer
-    ensures { result ≡ refusal number place }
+pub fn refused(why: Refusal, place: usize) -> Answer
+    ensures { result ≡ refusal (number why) place }
 {
-    refused_at(number, place, 0)
+    refused_at(why, place, 0)
 }
 
 // A draw that succeeded after skipping so many words and bytes: number 0 and the new place.

@@ -1,5 +1,5 @@
 // The distribution of independent error coefficients.
-#[derive(Clone, Copy)]
+#[derive(Clone, Copy, Debug, PartialEq)]
 pub enum ErrorDistribution {
     // Discrete Gaussian with this deviation.
     Gaussian { standard_deviation: f64 },

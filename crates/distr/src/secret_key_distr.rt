@@ -1,5 +1,5 @@
 // The choices in each block of a block-binary key.
-#[derive(Clone, Copy)]
+#[derive(Clone, Copy, Debug, PartialEq, Eq)]
 pub enum BlockOccupancy {
     // The block with no one, or with a single one at any place.
     AtMostOne,
@@ -8,7 +8,7 @@ pub enum BlockOccupancy {
 }
 
 // The distribution of the coefficients of a secret key.
-#[derive(Clone, Copy)]
+#[derive(Clone, Copy, Debug, PartialEq)]
 pub enum SecretKeyDistr {
     // 0 and 1, each with probability 1/2.
     UniformBinary,

@@ -6,7 +6,7 @@ ghost use Rattle.distr.specs.Layered.{float};
 ghost use Rattle.edge.specs.Edge.{slope_of, line_of, accepts_on};
 
 // A layer: its edge reaches from left to right, its heights are above and below, and its chord starts at top.
-#[derive(Clone, Copy)]
+#[derive(Clone, Copy, Debug, PartialEq)]
 pub struct Layer {
     pub left: f64,
     pub right: f64,

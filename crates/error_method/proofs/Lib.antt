@@ -1,3 +1,2 @@
--- Laws on preparing the method of an error distribution, and on the method that is prepared.
-pub mod Preparing
+-- Laws on the method that is prepared for an error distribution.
 pub mod Prepared

@@ -2,26 +2,29 @@
 #![tactic(auto)]
 
 ghost use Rattle.std.specs.Prelude.{◌≡◌};
-ghost use Rattle.error_method.specs.Method.{preparing};
+ghost use Rattle.distr.specs.Making.{error_number};
+ghost use Rattle.distr.specs.Refusals.{Makes};
+ghost use Rattle.error_method.specs.Method.{prepared};
 
 use centered_binomial::CenteredBinomialParameters;
 use distr::error_distribution::ErrorDistribution;
-use methods::{PreparedMethod, SamplingMethod, judged};
+use distr::refusal::Refusal;
+use gaussian_core::parameters::new_parameters;
+use methods::SamplingMethod;
 
-// The number of making a distribution, 2 or 3 for a deviation and 4 for an eta, and, where it is 0, its method.
-pub fn prepare(distribution: ErrorDistribution) -> PreparedMethod
-    ensures { result ≡ preparing distribution }
+// The method of a distribution, whose parameter is judged first: 2 or 3 for a deviation, 4 for an eta.
+#[tactic(auto, unfolding(distr::specs::Making::error_number, crate::specs::Method::prepared))]
+pub fn prepare(distribution: ErrorDistribution) -> Result<SamplingMethod, Refusal>
+    ensures { Makes (error_number distribution) (prepared distribution) result }
 {
     match distribution {
         ErrorDistribution::Gaussian { standard_deviation } => {
-            let made = gaussian_core::parameters::new_parameters(standard_deviation);
-            let parameters = made.parameters;
-            judged(made.number, SamplingMethod::Gaussian(parameters))
+            let parameters = new_parameters(standard_deviation)?;
+            Ok(SamplingMethod::Gaussian(parameters))
         }
         ErrorDistribution::CenteredBinomial { eta } => {
-            let made = CenteredBinomialParameters::new(eta);
-            let parameters = made.parameters;
-            judged(made.number, SamplingMethod::CenteredBinomial(parameters))
+            let parameters = CenteredBinomialParameters::new(eta)?;
+            Ok(SamplingMethod::CenteredBinomial(parameters))
         }
     }
 }

@@ -7,15 +7,18 @@ mod draws;
 ghost use Rattle.std.specs.Prelude.{◌≡◌, not, [], ◌∷◌};
 ghost use Rattle.distr.specs.Distribution.{error};
 ghost use Rattle.distr.specs.Making.{refuse, largest};
+ghost use Rattle.distr.specs.Constants.{never_made};
 ghost use Rattle.distr.specs.Numbers.{first_of, modulus_number};
-ghost use Rattle.methods.specs.Method.{tested_method, magnitude_of};
+ghost use Rattle.distr.specs.Refusals.{number_of, Makes};
+ghost use Rattle.methods.specs.Method.{magnitude_of};
 ghost use Rattle.error_sampler.specs.Sampler.{making, is_made, deviation_of};
 
 use centered_binomial::deviation::standard_deviation as binomial_deviation;
 use distr::error_distribution::ErrorDistribution;
+use distr::refusal::Refusal;
 use error_method::prepare;
-use methods::key::{method_key, same_key};
-use methods::{PreparedMethod, SamplingMethod, tested, validated_modulus};
+use methods::key::same_method;
+use methods::{SamplingMethod, check_modulus_by, tested};
 
 // A prepared sampler. Its fields are public, so a draw judges first whether making gives it (21).
 #[derive(Clone, Copy)]
@@ -36,25 +39,21 @@ impl ErrorSampler {
     pub fn try_new(distribution: ErrorDistribution) -> MadeErrorSampler
         ensures { result ≡ making distribution }
     {
-        let prepared = prepare(distribution);
-        let number = prepared.number;
-        let method = prepared.method;
-        if number == 0 {
-            MadeErrorSampler {
+        match prepare(distribution) {
+            Ok(method) => MadeErrorSampler {
                 number: 0,
                 sampler: ErrorSampler {
                     distribution,
                     method,
                 },
-            }
-        } else {
-            MadeErrorSampler {
-                number,
+            },
+            Err(why) => MadeErrorSampler {
+                number: why.number(),
                 sampler: ErrorSampler {
                     distribution: ErrorDistribution::CenteredBinomial { eta: 0 },
                     method: SamplingMethod::Empty,
                 },
-            }
+            },
         }
     }
 
@@ -85,18 +84,18 @@ impl ErrorSampler {
         }
     }
 
-    // 0, or 21 for a sampler that making never gives, 9 for a modulus that is not above the largest magnitude.
-    pub fn validate_modulus(self, modulus: u64) -> u32
-        ensures { result ≡ first_of (refuse (not (is_made self)) 21 ∷ modulus_number (largest (error self.distribution)) modulus ∷ []) }
+    // Refuses with 21 a sampler that making never gives, with 9 a modulus that is not above the largest magnitude.
+    pub fn validate_modulus(self, modulus: u64) -> Result<(), Refusal>
+        ensures { number_of result ≡ first_of (refuse (not (is_made self)) 21 ∷ modulus_number (largest (error self.distribution)) modulus ∷ []) }
     {
         let made = is_made(self);
         let method = self.method;
-        validated_modulus(made, methods::maximum_magnitude(method), modulus)
+        check_modulus_by(made, methods::maximum_magnitude(method), modulus)
     }
 
     // What the sampler draws by: its method, with 21 where making never gives the sampler.
-    pub fn prepared(self) -> PreparedMethod
-        ensures { result ≡ tested_method (is_made self) self.method }
+    pub fn prepared(self) -> Result<SamplingMethod, Refusal>
+        ensures { Makes (refuse (not (is_made self)) never_made) self.method result }
     {
         let made = is_made(self);
         let method = self.method;
@@ -110,8 +109,8 @@ pub fn is_made(sampler: ErrorSampler) -> bool
 {
     let distribution = sampler.distribution;
     let method = sampler.method;
-    let prepared = prepare(distribution);
-    let again = prepared.method;
-    let same = same_key(method_key(method), method_key(again));
-    (prepared.number == 0) & same
+    match prepare(distribution) {
+        Ok(again) => same_method(method, again),
+        Err(_) => false,
+    }
 }

@@ -1,35 +1,22 @@
--- How many words insertions take: one for each choice, one for each 32 signs, and those that the choices pass over.
+-- How many words signs inserted take: one for each choice, one for each 32 signs, and those that the choices pass over.
 use mathlib.Core.Path.{◌≡◌, refl, sym, ap, ◌∙◌}
-use mathlib.Core.List.{List, [], ◌∷◌, map}
+use mathlib.Core.List.{List, [], ◌∷◌}
 use Prim.Native.Nat.{ℕ, zero, suc, ◌+◌, ◌-◌, ◌/◌, ◌%◌}
 use native.Mathlib.Omega.{arith}
-use lib.ListN.{length, length-map}
-use lib.IntN.{ℤ, pos}
-use Rattle.distr.specs.Words.{Read, got, short, map_read, bind_read, word, choose, choose_each}
+use lib.ListN.{length}
+use Rattle.distr.specs.Words.{Read, got, short, map_read, bind_read, word, choose}
 use Rattle.distr.specs.Packed.{digits}
-use Rattle.distr.specs.Skipped.{passed_over, passed_after, passed_each}
-use Rattle.distr.specs.Insertion.{count_up, insert_each, signs, passed_signed}
-use Rattle.distr.proofs.Reading.{short-not-got, map-got}
-use Rattle.distr.proofs.Skipping.{choice_counts, each_counts}
-use Rattle.fixed_weights.specs.Inserting.{lowest_sign_and_place, sign_and_place, inserted_at, insert_all, insert_signs}
-use Rattle.fixed_weights.proofs.Inserting.{bind_map, length_inserted, rule_inserts, map_insert}
+use Rattle.distr.specs.Skipped.{passed_over, passed_after}
+use Rattle.distr.specs.Insertion.{count_up, signs, passed_signed}
+use Rattle.distr.proofs.Reading.{short-not-got}
+use Rattle.distr.proofs.Skipping.{choice_counts}
+use Rattle.fixed_weights.specs.Inserting.{lowest_sign_and_place, sign_and_place, inserted_at, insert_signs}
+use Rattle.fixed_weights.proofs.Inserting.{bind_map, length_inserted}
 
-length_count : (a m : ℕ) → length (count_up a m) ≡ m
+pub length_count : (a m : ℕ) → length (count_up a m) ≡ m
 unfolding count_up
 length_count a zero = refl
 length_count a (suc m) = ap suc (length_count (suc a) m)
-
--- values inserted: insertion does not look at them, so its choices are the rule's
-pub insert_all_count : {A : Type 0} (vs xs ys : List A) (ws rest : List ℕ) → insert_all vs xs ws ≡ got ys rest
-    → length ws ≡ length vs + passed_each (count_up (suc (length xs)) (length vs)) ws + length rest
-unfolding map_read
-insert_all_count {A} vs xs ys ws rest e =
-    let f : A → ℤ = λ v. pos 0 in
-    let ks : List ℕ = count_up (suc (length xs)) (length vs) in
-    let rule : map_read (λ ss. insert_each (map f vs) ss (map f xs)) (choose_each ks ws) ≡ insert_all (map f vs) (map f xs) ws =
-    rw (length-map xs f, length-map vs f) at (rule_inserts (map f vs) (map f xs) ws) in
-    let read = map-got _ (choose_each ks ws) (map f ys) rest (rule ∙ sym (map_insert f vs xs ws) ∙ ap (map_read (map f)) e) in
-    omega (arith, each_counts ks ws read.0 rest read.1, length_count (suc (length xs)) (length vs))
 
 -- the words of signs that m insertions read where `left` signs are at hand
 abbrev pub sign_words : ℕ → ℕ → ℕ

@@ -73,6 +73,13 @@ module _ {A : Type 0} where
   unfolding insert_all bind_read
   insert_short v vs xs ws e = rw e
 
+  -- values inserted one after the other, however they are grouped
+  pub insert_append : (vs us xs : List A) (ws : List ℕ) → insert_all (vs ++ us) xs ws ≡ bind_read (insert_all vs xs ws) (λ ys rest. insert_all us ys rest)
+  unfolding insert_all bind_read
+  insert_append [] us xs ws = refl
+  insert_append (v ∷ vs) us xs ws =
+      bind_same (choose (suc (length xs)) ws) _ _ (λ s rest. insert_append vs us (inserted_at v xs s) rest) ∙ sym (bind_bind (choose (suc (length xs)) ws) _ _)
+
 -- the rule's insertion is this one
 pub rule_inserts : (vs xs : List ℤ) (ws : List ℕ)
     → map_read (λ ss. insert_each vs ss xs) (choose_each (count_up (suc (length xs)) (length vs)) ws) ≡ insert_all vs xs ws

@@ -1,142 +1,148 @@
--- The loop that inserts signs, over any kind of value: what is read from the words left now is what is read from those left at first.
-use mathlib.Core.Path.{◌≡◌, sym, ap, ◌∙◌}
-use mathlib.Core.List.{List, []}
-use Prim.Native.Nat.{ℕ, suc, ◌+◌, ◌-◌, ◌/◌, ◌<◌, ◌≤◌}
+-- Signs inserted at chosen places: the rule of a fixed ternary weight, and the loop that inserts them. What is read from the words left now, and from the
+-- signs at hand, is what is read from the words left at first.
+use mathlib.Core.Path.{◌≡◌, refl, sym, ap, ◌∙◌}
+use mathlib.Core.List.{List, [], ◌∷◌, map}
+use Prim.Native.Nat.{ℕ, zero, suc, ◌+◌, ◌-◌, ◌/◌, ◌%◌, ◌<◌, ◌≤◌}
 use native.Mathlib.Numerals.{add-one}
 use native.Mathlib.Omega.{arith}
-use lib.ListN.{length, get_or, take, drop, set, replicate, length-drop, length-replicate}
-use lib.Seq.{length-take-le}
-use Rattle.distr.specs.Words.{Read, got, short, bind_read}
-use Rattle.distr.specs.Constants.{out_of_words}
-use Rattle.distr.specs.declared.answer.Answer.{Answer}
-use Rattle.distr.specs.Answers.{refusal, success_after, sums, reported}
-use Rattle.distr.specs.Skipped.{Skipped, skipped_words}
-use Rattle.distr.specs.Packed.{digits}
-use Rattle.distr.specs.Insertion.{count_up, passed_signed}
-use Rattle.distr.specs.Draw.{outcome}
-use Rattle.distr.proofs.Skipping.{reports_words}
-use Rattle.distr.proofs.Writing.{take-replicate}
-use Rattle.words.proofs.Places.{lent_from, lent-all}
+use lib.ListN.{length, get_or, take, drop, set, replicate, length-replicate, length-map}
+use lib.Seq.{take_all, length-take-le}
+use lib.IntN.{ℤ, pos}
+use Rattle.std.specs.Prelude.{Some, None}
+use Rattle.distr.specs.Words.{Read, got, map_read, bind_read, word, choose}
+use Rattle.distr.specs.Rule.{read_by}
+use Rattle.distr.specs.Packed.{digits, minus_one, sign_value}
+use Rattle.distr.specs.Insertion.{count_up, inserted, signs, choose_signed, insert_signed, signed_insertion}
+use Rattle.distr.proofs.Reading.{map_read_twice, map_read_same}
+use Rattle.distr.proofs.Writing.{map-replicate, take-replicate}
 use Rattle.fixed_weights.specs.declared.choices.Signing.{Signing}
-use Rattle.fixed_weights.specs.declared.choices.Signing.TheVariants.{Got, Short}
-use Rattle.fixed_weights.specs.Inserting.{SignAndPlace, sign_and_place, signing, inserted_at, insert_signs, placed, inserting_signs}
-use Rattle.fixed_weights.proofs.Counting.{insert_signs_count}
-use Rattle.fixed_weights.proofs.Signs.{Drew, drew, signing-short}
-use Rattle.fixed_weights.proofs.Turns.{Turn, turn_end, turn-next, placed-got, placed-short}
+use Rattle.fixed_weights.specs.Inserting.{lowest_sign_and_place, sign_and_place, signing, inserted_at, insert_signs, stopped}
+use Rattle.fixed_weights.proofs.Inserting.{map_bind, bind_same, bind_bind, bind_map, length_inserted, map-inserted}
+use Rattle.fixed_weights.proofs.Turns.{Turn, turn_next}
+use Rattle.fixed_weights.proofs.Signs.{Drew, drew, signing_short}
 
--- one sign more: its choice, and then the others
-module _ {A : Type 0} (value : ℕ → A) (m w left : ℕ) (xs : List A) (ws : List ℕ) where
-  signs_step : (c : SignAndPlace) (rest : List ℕ) → sign_and_place (suc (length xs)) w left ws ≡ got c rest
-      → insert_signs value (suc m) w left xs ws ≡ insert_signs value m c.rest c.fewer (inserted_at (value c.bit) xs c.chosen) rest
-  unfolding insert_signs bind_read
-  signs_step c rest e = rw e
+-- the rule's insertion with signs is this one: a step with a sign at hand, the lowest bit of w, after which it is by `later`
+module _ (m : ℕ) (later : (w left : ℕ) (xs : List ℤ) (ws : List ℕ)
+    → map_read (λ ds. insert_signed ds xs) (choose_signed (count_up (suc (length xs)) m) (digits 2 left w) ws) ≡ insert_signs sign_value m w left xs ws) where
+  rule_sign : (w left : ℕ) (xs : List ℤ) (ws : List ℕ)
+      → map_read (λ ds. insert_signed ds xs) (bind_read (choose (suc (length xs)) ws) (λ s rest.
+      map_read (λ ds. w % 2 ∷ s ∷ ds) (choose_signed (count_up (suc (suc (length xs))) m) (digits 2 left (w / 2)) rest)))
+      ≡ bind_read (lowest_sign_and_place (suc (length xs)) w (suc left) ws) (λ c rest.
+      insert_signs sign_value m c.rest c.fewer (inserted_at (sign_value c.bit) xs c.chosen) rest)
+  unfolding lowest_sign_and_place insert_signed inserted inserted_at
+  rule_sign w left xs ws =
+      let less : suc left - 1 ≡ left = omega arith in
+      map_bind (λ (ds : List ℕ). insert_signed ds xs) (choose (suc (length xs)) ws) _
+      ∙ bind_same (choose (suc (length xs)) ws) _ _ (λ s rest.
+      map_read_twice (λ (ds : List ℕ). insert_signed ds xs) (λ (ds : List ℕ). w % 2 ∷ s ∷ ds) (choose_signed (count_up (suc (suc (length xs))) m) (digits 2 left (w / 2)) rest)
+      ∙ ap (λ (k : ℕ). map_read (λ (ds : List ℕ). insert_signed ds (inserted (sign_value (w % 2)) xs s)) (choose_signed (count_up (suc k) m) (digits 2 left (w / 2)) rest))
+      (sym (length_inserted (sign_value (w % 2)) xs s))
+      ∙ later (w / 2) left (inserted_at (sign_value (w % 2)) xs s) rest
+      ∙ ap (λ (f : ℕ). insert_signs sign_value m (w / 2) f (inserted_at (sign_value (w % 2)) xs s) rest) (sym less))
+      ∙ sym (bind_map _ (choose (suc (length xs)) ws) _)
 
-  signs_stop : sign_and_place (suc (length xs)) w left ws ≡ short → insert_signs value (suc m) w left xs ws ≡ short
-  unfolding insert_signs bind_read
-  signs_stop e = rw e
+pub rule-signs : (m w left : ℕ) (xs : List ℤ) (ws : List ℕ)
+    → map_read (λ ds. insert_signed ds xs) (choose_signed (count_up (suc (length xs)) m) (digits 2 left w) ws) ≡ insert_signs sign_value m w left xs ws
+unfolding map_read bind_read choose_signed count_up insert_signed insert_signs sign_and_place signs digits
+rule-signs zero w left xs ws = refl
+rule-signs (suc m) w zero xs ws =
+    map_bind (λ (ds : List ℕ). insert_signed ds xs) (map_read (digits 2 32) (word ws)) _
+    ∙ bind_map (digits 2 32) (word ws) _
+    ∙ bind_same (word ws) _ _ (λ new rest. rule_sign m (rule-signs m) new 31 xs rest)
+    ∙ sym (bind_bind (word ws) _ _)
+rule-signs (suc m) w (suc left) xs ws = rule_sign m (rule-signs m) w left xs ws
 
-module _ {A : Type 0} (z : A) (table : List A) (words : List ℕ) (n weight : ℕ) where
-  abbrev goal : Read (List A)
-  goal = inserting_signs table z weight n words
+-- insertion of signs does not look at the values
+signs_held : {A : Type 0} (val : ℤ → A) (m w left : ℕ) (xs : List ℤ) (ws : List ℕ)
+    → map_read (map val) (insert_signs sign_value m w left xs ws) ≡ insert_signs (λ b. val (sign_value b)) m w left (map val xs) ws
+unfolding map_read insert_signs
+signs_held val zero w left xs ws = refl
+signs_held val (suc m) w left xs ws =
+    rw (length-map xs val)
+    (map_bind (map val) (sign_and_place (suc (length xs)) w left ws) _
+    ∙ bind_same (sign_and_place (suc (length xs)) w left ws) _ _ (λ c rest.
+    signs_held val m c.rest c.fewer (inserted_at (sign_value c.bit) xs c.chosen) rest
+    ∙ ap (λ t. insert_signs (λ b. val (sign_value b)) m c.rest c.fewer t rest) (map-inserted val (sign_value c.bit) xs c.chosen)))
+
+-- of an output that holds each coefficient by `val`, what stands for the sign b
+sign_element : {A : Type 0} (val : ℤ → A) (b : ℕ) {minus one : A} (d : A) → b < 2 → minus ≡ val minus_one → one ≡ val (pos 1)
+    → get_or (minus ∷ one ∷ []) b d ≡ val (sign_value b)
+sign_element val zero d l m o = m
+sign_element val (suc zero) d l m o = o
+sign_element val (suc (suc b)) d l m o = absurd (omega arith)
+
+module _ {A : Type 0} (hold : List ℤ → List A) (val : ℤ → A) (words : List ℕ) (n weight : ℕ) where
+  abbrev pub all_signs : Read (List A)
+  all_signs = map_read hold (read_by (signed_insertion weight n) words)
 
   -- the signs still to be inserted at index i, `left` of them at hand, the lowest bits of w
   abbrev still : ℕ → ℕ → ℕ → List A → List ℕ → Read (List A)
-  still i w left = insert_signs (λ b. get_or table b z) (n - i) w left
+  still i w left = insert_signs (λ b. val (sign_value b)) (n - i) w left
 
-  pub record SignTurn (i at w left : ℕ) (out : List A) : Type 0 where
-    pub turn : Turn words n goal (still i w left) i at out
+  abbrev pub SignTurn : ℕ → ℕ → ℕ → ℕ → List A → Type 0
+  SignTurn i at w left out = Turn words n all_signs (still i w left) i at out
 
-module _ {A : Type 0} {z : A} {table : List A} {words : List ℕ} {n weight : ℕ} where
-  pub signs-start : {out : List A} → weight ≤ n → out ≡ replicate n (get_or table 2 z) → SignTurn z table words n weight (n - weight) 0 0 0 out
-  signs-start {out} h e =
+  pub signs_insert : ((cs : List ℤ) → hold cs ≡ map val cs)
+      → all_signs ≡ insert_signs (λ b. val (sign_value b)) weight 0 0 (replicate (n - weight) (val (pos 0))) words
+  unfolding digits
+  signs_insert each =
+      let xs : List ℤ = replicate (n - weight) (pos 0) in
+      map_read_same hold (map val) each _
+      ∙ ap (λ (k : ℕ). map_read (map val) (map_read (λ ds. insert_signed ds xs) (choose_signed (count_up (suc k) weight) [] words)))
+      (sym (length-replicate (n - weight) (pos 0)))
+      ∙ ap (map_read (map val)) (rule-signs weight 0 0 xs words)
+      ∙ signs_held val weight 0 0 xs words
+      ∙ ap (λ (ys : List A). insert_signs (λ b. val (sign_value b)) weight 0 0 ys words) (map-replicate val (n - weight) (pos 0))
+
+  pub signs_first : ((cs : List ℤ) → hold cs ≡ map val cs) → {z : A} {out : List A} → z ≡ val (pos 0) → out ≡ replicate n z → weight ≤ n
+      → SignTurn (n - weight) 0 0 0 out
+  signs_first each {z} {out} zeros filled room =
       let all : n - (n - weight) ≡ weight = omega arith in
       record {
-        turn = record {
-          reach = omega arith;
-          size = ap length e ∙ length-replicate n (get_or table 2 z);
-          within = omega arith;
-          reading = rw all
-              (ap (λ (t : List A). insert_signs (λ b. get_or table b z) weight 0 0 t words)
-              (ap (take (n - weight)) e ∙ take-replicate (n - weight) n (get_or table 2 z) (omega arith)));
-        };
+        size = ap length filled ∙ length-replicate n z;
+        within = omega arith;
+        reading = rw all
+            (ap (λ (t : List A). insert_signs (λ b. val (sign_value b)) weight 0 0 t words)
+            (ap (take (n - weight)) filled ∙ take-replicate (n - weight) n z (omega arith) ∙ ap (replicate (n - weight)) zeros)
+            ∙ sym (signs_insert each));
       }
 
-  module _ {i at w left : ℕ} {out : List A} (t : SignTurn z table words n weight i at w left out) where
-    -- a choice among i + 1 comes next; r is what it hands back
-    module _ (more : i < n) {r : Signing} (told : r ≡ signing (length words) (sign_and_place (i + 1) w left (drop at words))) where
-      one_more : still z table words n weight i w left (take i out) (drop at words)
-          ≡ insert_signs (λ b. get_or table b z) (suc (n - suc i)) w left (take i out) (drop at words)
-      one_more = ap (λ (m : ℕ). insert_signs (λ b. get_or table b z) m w left (take i out) (drop at words)) (omega arith)
+  module _ (i at w left : ℕ) (out : List A) (now : SignTurn i at w left out) where
+    pub signs_done : n ≤ i → stopped (Some at) out words ≡ all_signs
+    unfolding stopped insert_signs
+    signs_done h =
+        let none : n - i ≡ 0 = omega arith in
+        ap (λ (t : List A). got t (drop at words)) (sym (take_all i out (omega (arith, now.size)))) ∙ rw none at now.reading
 
-      choice : sign_and_place (suc (length (take i out))) w left (drop at words) ≡ sign_and_place (i + 1) w left (drop at words)
-      choice = ap (λ (k : ℕ). sign_and_place k w left (drop at words)) (omega (arith, length-take-le i out (omega (arith, t.turn.size))))
-
-      module _ {bit s rest fewer after : ℕ} (got-it : r ≡ Got bit s rest fewer after) where
-        drawn : Drew words (i + 1) (sign_and_place (i + 1) w left (drop at words)) bit s rest fewer after
-        drawn = drew words (i + 1) at w left (sym got-it ∙ told)
-
-        -- the index, the place and the sign's code are there
-        pub sign_index : i < length out
-        sign_index = omega (arith, t.turn.size)
-
-        pub sign_place : s < length out
-        sign_place = omega (arith, t.turn.size, drawn.below)
-
-        pub sign_code : bit < 3
-        sign_code = omega (arith, drawn.is-bit)
-
-        pub signs-next : {out' : List A} → out' ≡ set (set out i (get_or out s z)) s (get_or table bit z)
-            → SignTurn z table words n weight (i + 1) after rest fewer out'
-        signs-next o =
-            rw o
-            (record {
-              turn = turn-next words n _ _ i at out t.turn (still z table words n weight (i + 1) rest fewer) s after (get_or table bit z) z more
-                  drawn.below drawn.within
-                  (rw (add-one i)
-                  (one_more ∙ signs_step (λ b. get_or table b z) (n - suc i) w left (take i out) (drop at words) _ _ (choice ∙ drawn.reads)));
-            })
-
-      signs_stopped : r ≡ Short → goal z table words n weight ≡ short
-      signs_stopped e =
-          sym t.turn.reading ∙ one_more
-          ∙ signs_stop (λ b. get_or table b z) (n - suc i) w left (take i out) (drop at words)
-          (choice ∙ signing-short (length words) (sign_and_place (i + 1) w left (drop at words)) (sym e ∙ told))
-
-    -- every sign is inserted
-    module _ (h : n ≤ i) where
-      signs-end : goal z table words n weight ≡ got out (drop at words)
+    module _ (more : i < n) where
+      one_more : still i w left (take i out) (drop at words)
+          ≡ bind_read (sign_and_place (i + 1) w left (drop at words)) (λ c rest. still (suc i) c.rest c.fewer (inserted_at (val (sign_value c.bit)) (take i out) c.chosen) rest)
       unfolding insert_signs
-      signs-end =
-          let none : n - i ≡ 0 = omega arith in
-          turn_end words n _ (still z table words n weight i w left) i at out t.turn h (λ xs ws. rw none)
+      one_more =
+          let size : length (take i out) ≡ i = length-take-le i out (omega (arith, now.size)) in
+          let more-left : n - i ≡ suc (n - suc i) = omega arith in
+          rw (more-left, size, add-one i)
 
-      -- a word was taken for each choice, one for each 32 signs, and those that the choices passed over
-      signs_count : at ≡ weight + (weight + 31) / 32 + passed_signed (count_up (suc (n - weight)) weight) [] words
-      unfolding digits
-      signs_count =
-          let zeros : List A = replicate (n - weight) (get_or table 2 z) in
-          let all = insert_signs_count (λ b. get_or table b z) weight 0 0 zeros out words (drop at words) signs-end in
-          omega (arith, rw (length-replicate) at all, length-drop at words, t.turn.within)
+      pub signs_short : (xs : List A) → None ≡ signing (length words) (sign_and_place (i + 1) w left (drop at words)) → stopped None xs words ≡ all_signs
+      unfolding stopped bind_read
+      signs_short xs e =
+          sym (rw (signing_short (length words) (sign_and_place (i + 1) w left (drop at words)) e) at one_more) ∙ now.reading
 
-      pub signs_used : weight + (weight + 31) / 32 ≤ at
-      signs_used = omega (arith, signs_count)
+      module _ (s : Signing) (chosen : Some s ≡ signing (length words) (sign_and_place (i + 1) w left (drop at words))) where
+        drawn : Drew words (i + 1) (sign_and_place (i + 1) w left (drop at words)) s
+        drawn = drew words (i + 1) s at w left chosen
 
--- the answers, from a place of the words: the loop is lent those from there on
-module _ {A : Type 0} (z : A) (table : List A) (words : List ℕ) (n weight place : ℕ) where
-  abbrev Answers : Answer → List A → Type 0
-  Answers answer out = outcome answer out ≡ placed z (length words) place n (goal z table (drop place words) n weight)
+        pub sign_bit : s.bit < 2
+        sign_bit = drawn.is-bit
 
-  module _ {i next w left : ℕ} {out : List A} (t : SignTurn z table (lent_from words place) n weight i next w left out) where
-    pub signs_done : {answer : Answer} {s : Skipped} → place ≤ length words → answer ≡ success_after (place + next) s → n ≤ i → Answers answer out
-    signs_done p e h = rw e (placed-got z words place n (inserting_signs table z weight n) next out p t.turn.within (signs-end t h))
+        pub sign_place : s.selected < length out
+        sign_place = omega (arith, now.size, drawn.below)
 
-    pub signs_reports : {answer : Answer} → answer ≡ success_after (place + next) (skipped_words (next - (weight + (weight + 31) / 32))) → n ≤ i
-        → sums answer ≡ reported answer.number (skipped_words (passed_signed (count_up (suc (n - weight)) weight) [] (drop place words)))
-    signs_reports e h =
-        let passed = passed_signed (count_up (suc (n - weight)) weight) [] in
-        reports_words e (omega (arith, signs_count t h, ap passed (lent-all words place)))
-
-    pub signs-short : {answer : Answer} {out' : List A} {r : Signing} → i < n
-        → r ≡ signing (length (lent_from words place)) (sign_and_place (i + 1) w left (drop next (lent_from words place))) → r ≡ Short
-        → answer ≡ refusal out_of_words place → out' ≡ replicate (length out) z → Answers answer out'
-    signs-short h told e a o = rw (a, o, t.turn.size) (placed-short z words place n (inserting_signs table z weight n) (signs_stopped t h told e))
+        pub signs_next : (d : A) {minus one : A} {later : List A} → minus ≡ val minus_one → one ≡ val (pos 1) → let v = get_or (minus ∷ one ∷ []) s.bit d in
+            later ≡ set (set out i (get_or out s.selected v)) s.selected v → SignTurn (i + 1) s.place s.signs.word s.signs.left later
+        unfolding bind_read
+        signs_next d {minus} {one} m o stored =
+            let v : A = get_or (minus ∷ one ∷ []) s.bit d in
+            rw stored
+            (turn_next words n all_signs _ i at out now (still (i + 1) s.signs.word s.signs.left) s.selected s.place v (omega arith) drawn.below drawn.within
+            (rw (add-one i, sign_element val s.bit d sign_bit m o) (rw drawn.reads at one_more)))

@@ -1,13 +1,7 @@
 -- Insertion over any kind of value, with the choices read on the way.
-use Rattle.std.specs.Prelude.{ℕ, zero, suc, ◌-◌, ◌/◌, ◌%◌, List, [], ◌∷◌, ◌++◌, length, get_or, set, replicate}
+use Rattle.std.specs.Prelude.{ℕ, zero, suc, ◌-◌, ◌/◌, ◌%◌, Option, Some, None, List, [], ◌∷◌, ◌++◌, length, get_or, set, drop}
 use Rattle.distr.specs.Words.{Read, got, short, map_read, bind_read, word, choose}
-use Rattle.distr.specs.Constants.{out_of_words}
-use Rattle.distr.specs.Draw.{Outcome}
-use Rattle.fixed_weights.specs.declared.plans.Plan.{Plan}
 use Rattle.fixed_weights.specs.declared.choices.Signing.{Signing}
-use Rattle.fixed_weights.specs.declared.choices.Signing.TheVariants.{Got, Short}
-use Rattle.fixed_weights.specs.Table.{entries}
-use Rattle.fixed_weights.specs.Plans.{zero_code, planned, codes}
 
 -- Place s is copied to the new place at the end, and the value is put at s.
 unfoldable pub inserted_at : {A : Type 0} → A → List A → ℕ → List A
@@ -34,10 +28,11 @@ unfoldable pub sign_and_place : ℕ → ℕ → ℕ → List ℕ → Read SignAn
 sign_and_place k w zero ws = bind_read (word ws) (λ new rest. lowest_sign_and_place k new 32 rest)
 sign_and_place k w (suc left) ws = lowest_sign_and_place k w (suc left) ws
 
--- A reading of a sign and a place as the functions hand it back: of `word_count` words in all, `after` is where those left begin.
-unfoldable pub signing : ℕ → Read SignAndPlace → Signing
-signing word_count (got c rest) = Got c.bit c.chosen c.rest c.fewer (word_count - length rest)
-signing word_count short = Short
+-- A reading of a sign and a place as the functions hand it back: of `word_count` words in all, the place is where those left begin.
+unfoldable pub signing : ℕ → Read SignAndPlace → Option Signing
+signing word_count (got c rest) =
+    Some (record { bit = c.bit; selected = c.chosen; signs = record { word = c.rest; left = c.fewer }; place = word_count - length rest })
+signing word_count short = None
 
 -- m signs' values inserted one after the other; the lowest `left` bits of w are the signs at hand.
 unfoldable pub insert_signs : {A : Type 0} → (ℕ → A) → ℕ → ℕ → ℕ → List A → List ℕ → Read (List A)
@@ -46,16 +41,7 @@ insert_signs value (suc m) w left xs ws =
     bind_read (sign_and_place (suc (length xs)) w left ws) (λ c rest.
     insert_signs value m c.rest c.fewer (inserted_at (value c.bit) xs c.chosen) rest)
 
--- The answer of a draw of n values begun at `place` in `word_count` words: the values and the place where the words left begin, or 23, the
--- old place and zeros.
-unfoldable pub placed : {A : Type 0} → A → ℕ → ℕ → ℕ → Read (List A) → Outcome A
-placed z word_count place n (got xs rest) = record { number = 0; place = word_count - length rest; index = 0; output = xs }
-placed z word_count place n short = record { number = out_of_words; place = place; index = 0; output = replicate n z }
-
--- The reading of a plan into n values, which `table` holds by their codes.
-abbrev pub inserting : {A : Type 0} → List A → A → Plan → ℕ → List ℕ → Read (List A)
-inserting table z p n ws = insert_all (entries table z (codes p)) (replicate (n - planned p) (get_or table p.fill z)) ws
-
--- The reading of `weight` signs into n values, which `table` holds by their codes; at first no sign is at hand.
-abbrev pub inserting_signs : {A : Type 0} → List A → A → ℕ → ℕ → List ℕ → Read (List A)
-inserting_signs table z weight n ws = insert_signs (λ b. get_or table b z) weight 0 0 (replicate (n - weight) (get_or table zero_code z)) ws
+-- Where an insertion into xs stopped, as the functions hand it back: the words left begin at the place, or one was missing.
+unfoldable pub stopped : {A : Type 0} → Option ℕ → List A → List ℕ → Read (List A)
+stopped (Some next) xs ws = got xs (drop next ws)
+stopped None xs ws = short

@@ -1,5 +1,3 @@
--- What the functions that insert, into each output type, say of their tables, plans and readings, and of where they stopped. Their public
--- draws cite the rules alone.
-pub mod Table
+-- What the functions that insert say of their plans and readings, and of where they stopped. The public draws cite the rules alone.
 pub mod Plans
 pub mod Inserting

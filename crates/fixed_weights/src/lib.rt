@@ -1,6 +1,8 @@
-// An inner crate of the library primus_distr: what fixed weights and fixed compositions share, whatever the output's type, that is the plan of
-// an insertion and the choices of signs and places. The draws stand in crates of their own, one for each output type.
+// An inner crate of the library primus_distr: fixed weights and fixed compositions, values inserted at chosen places, whatever the output holds.
 #![tactic(auto)]
 
 pub mod choices;
+pub mod fixed_composition;
+pub mod fixed_weight;
+mod insertion;
 pub mod plans;

@@ -1,38 +1,34 @@
-// Plans of insertions. A plan says what fills and what is inserted, by the codes 0, 1, 2 of -1, 1 and 0, whatever the output's type; a
-// table holds what they are in the output.
-ghost use Rattle.std.specs.Prelude.{◌≡◌, cond, ◌+◌, ◌≤◌, ltb};
-ghost use Rattle.fixed_weights.specs.Plans.{composition_plan, only_first, binary_plan, planning, weight_number};
+// Plans of insertions. A plan says what fills and what is inserted, whatever the output's type.
+ghost use Rattle.std.specs.Prelude.{◌≡◌, ◌+◌, ◌≤◌};
+ghost use Rattle.fixed_weights.specs.Plans.{composition_plan, only_first, binary_plan, weight_number};
+ghost use Rattle.distr.specs.Refusals.{number_of, Makes};
+
+use distr::refusal::Refusal;
+use numbers::check_draw;
+use ternary::ternary::TernaryValue;
 
 // One value fills; copies of a first and then of a second are inserted.
-#[derive(Clone, Copy)]
+#[derive(Clone, Copy, Debug, PartialEq, Eq)]
 pub struct Plan {
-    pub fill: usize,
-    pub first: usize,
+    pub fill: TernaryValue,
+    pub first: TernaryValue,
     pub firsts: usize,
-    pub second: usize,
+    pub second: TernaryValue,
     pub seconds: usize,
 }
 
-// A plan, or the number that refuses the draw.
-#[derive(Clone, Copy)]
-pub enum Planning {
-    By(Plan),
-    Refused(u32),
-}
-
-// The number of a draw of n coefficients with so many of two values: 22 past the end of the words, 6 too long, 7 too many, 0 good.
-pub fn weight_number(word_count: usize, place: usize, n: usize, first: usize, second: usize) -> u32
-    ensures { result ≡ weight_number word_count place n (first + second) }
+// Tests a draw of n coefficients with so many of two values: 22 past the end of the words, 6 too long, 7 too many.
+pub fn check_weights(
+    word_count: usize,
+    place: usize,
+    n: usize,
+    first: usize,
+    second: usize,
+) -> Result<(), Refusal>
+    ensures { number_of result ≡ weight_number word_count place n (first + second) }
 {
-    let own = numbers::weight_number(first, second, n);
-    numbers::draw_number(word_count, place, n, own)
-}
-
-// The code that is inserted at index i: the first before the index `split`, then the second.
-pub fn code_at(i: usize, split: usize, first: usize, second: usize) -> usize
-    ensures { result ≡ cond (ltb i split) first second }
-{
-    if i < split { first } else { second }
+    let own = numbers::check_weights(first, second, n);
+    check_draw(word_count, place, n, own)
 }
 
 // The commonest value fills, at ties 0 before -1 before 1, and the other two are inserted in that order.
@@ -41,60 +37,57 @@ fn commonest_fills(minus: usize, ones: usize, n: usize) -> Plan
     ensures { result ≡ composition_plan minus ones n }
 {
     let zeros = n - minus - ones;
-    if (minus <= zeros) & (ones <= zeros) {
+    if minus <= zeros && ones <= zeros {
         return Plan {
-            fill: 2,
-            first: 0,
+            fill: TernaryValue::Zero,
+            first: TernaryValue::MinusOne,
             firsts: minus,
-            second: 1,
+            second: TernaryValue::One,
             seconds: ones,
         };
     }
     if ones <= minus {
         return Plan {
-            fill: 0,
-            first: 2,
+            fill: TernaryValue::MinusOne,
+            first: TernaryValue::Zero,
             firsts: zeros,
-            second: 1,
+            second: TernaryValue::One,
             seconds: ones,
         };
     }
     Plan {
-        fill: 1,
-        first: 2,
+        fill: TernaryValue::One,
+        first: TernaryValue::Zero,
         firsts: zeros,
-        second: 0,
+        second: TernaryValue::MinusOne,
         seconds: minus,
     }
 }
 
-// The plan of n coefficients with so many -1 and so many 1, the rest zeros.
+// The plan of n coefficients with so many -1 and so many 1, the rest zeros, or why the draw is refused.
+#[tactic(auto, using(crate::proofs::Judging::number_light))]
 pub fn composition_plan(
     word_count: usize,
     place: usize,
     n: usize,
     minus: usize,
     ones: usize,
-) -> Planning
-    ensures { result ≡ planning (weight_number word_count place n (minus + ones)) (composition_plan minus ones n) }
+) -> Result<Plan, Refusal>
+    ensures { Makes (weight_number word_count place n (minus + ones)) (composition_plan minus ones n) result }
 {
-    let number = weight_number(word_count, place, n, minus, ones);
-    if number != 0 {
-        return Planning::Refused(number);
-    }
-    let plan = commonest_fills(minus, ones, n);
-    Planning::By(plan)
+    check_weights(word_count, place, n, minus, ones)?;
+    Ok(commonest_fills(minus, ones, n))
 }
 
 // A plan that inserts one value alone; the second is 0, inserted no times.
-fn only_first(fill: usize, first: usize, firsts: usize) -> Plan
+fn only_first(fill: TernaryValue, first: TernaryValue, firsts: usize) -> Plan
     ensures { result ≡ only_first fill first firsts }
 {
     Plan {
         fill,
         first,
         firsts,
-        second: 2,
+        second: TernaryValue::Zero,
         seconds: 0,
     }
 }
@@ -106,20 +99,22 @@ fn rarer_inserted(hamming_weight: usize, n: usize) -> Plan
 {
     let zeros = n - hamming_weight;
     if hamming_weight <= zeros {
-        only_first(2, 1, hamming_weight)
+        only_first(TernaryValue::Zero, TernaryValue::One, hamming_weight)
     } else {
-        only_first(1, 2, zeros)
+        only_first(TernaryValue::One, TernaryValue::Zero, zeros)
     }
 }
 
-// The plan of n coefficients with so many ones, the rest zeros.
-pub fn binary_plan(word_count: usize, place: usize, n: usize, hamming_weight: usize) -> Planning
-    ensures { result ≡ planning (weight_number word_count place n hamming_weight) (binary_plan hamming_weight n) }
+// The plan of n coefficients with so many ones, the rest zeros, or why the draw is refused.
+#[tactic(auto, using(crate::proofs::Judging::number_light))]
+pub fn binary_plan(
+    word_count: usize,
+    place: usize,
+    n: usize,
+    hamming_weight: usize,
+) -> Result<Plan, Refusal>
+    ensures { Makes (weight_number word_count place n hamming_weight) (binary_plan hamming_weight n) result }
 {
-    let number = weight_number(word_count, place, n, hamming_weight, 0);
-    if number != 0 {
-        return Planning::Refused(number);
-    }
-    let plan = rarer_inserted(hamming_weight, n);
-    Planning::By(plan)
+    check_weights(word_count, place, n, hamming_weight, 0)?;
+    Ok(rarer_inserted(hamming_weight, n))
 }

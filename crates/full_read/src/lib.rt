@@ -8,7 +8,8 @@ use std::io::Read;
 use std::rt::Files;
 use std::{fs, io};
 
-// Reads until buf is full or the input ends, and hands back how many bytes it put at the start of buf. A read that fails is the error.
+// Reads until buf is full or the input ends, and hands back how many bytes it put at the start of buf. A read that fails is the error. The loop is a
+// `while`: its place moves by what each read gives.
 pub fn read_full<R: Read>(reader: &mut R, buf: &mut [u8]) -> io::Result<usize>
     ensures in_bounds { IfOk result (λ n. n ≤ length buf.new) }
     ensures keeps_length { length buf.new ≡ length buf.old }

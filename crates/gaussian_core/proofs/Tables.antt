@@ -16,8 +16,8 @@ rising_none count last (x ∷ xs) h = absurd (omega arith)
 abbrev pub judged_to : ℕ → List ℕ → ℕ → Bool
 judged_to last xs i = eqb (get_or xs 0 0) 0 && eqb (get_or xs (length xs - 1) 0) last && never_falls (take i xs)
 
-pub judged-first : (last : ℕ) (xs : List ℕ) → (eqb (get_or xs 0 0) 0 && eqb (get_or xs (length xs - 1) 0) last) ≡ judged_to last xs 1
-judged-first last xs = rw (never_falls-one xs, and-true (eqb (get_or xs 0 0) 0 && eqb (get_or xs (length xs - 1) 0) last))
+pub judged_first : (last : ℕ) (xs : List ℕ) → (eqb (get_or xs 0 0) 0 && eqb (get_or xs (length xs - 1) 0) last) ≡ judged_to last xs 1
+judged_first last xs = rw (never_falls-one xs, and-true (eqb (get_or xs 0 0) 0 && eqb (get_or xs (length xs - 1) 0) last))
 
 pub judged_more : (last : ℕ) (xs : List ℕ) (i : ℕ) → 0 < i → i < length xs
     → (judged_to last xs i && leb (get_or xs (i - 1) 0) (get_or xs i 0)) ≡ judged_to last xs (i + 1)
@@ -30,7 +30,7 @@ judged_more last xs (suc i) h k =
     ∙ ap (λ (t : Bool). ends && t) (never_falls_more xs i k)
     ∙ ap (λ (j : ℕ). ends && never_falls (take j xs)) (sym (add-one (suc i)))
 
-pub judged-all : (count last : ℕ) (xs : List ℕ) (i : ℕ) → length xs ≡ count → 0 < count → i ≡ length xs → judged_to last xs i ≡ rising count last xs
-judged-all count last [] i e h p = absurd (omega arith)
-judged-all count last (x ∷ xs) i e h p =
+pub judged_all : (count last : ℕ) (xs : List ℕ) (i : ℕ) → length xs ≡ count → 0 < count → i ≡ length xs → judged_to last xs i ≡ rising count last xs
+judged_all count last [] i e h p = absurd (omega arith)
+judged_all count last (x ∷ xs) i e h p =
     rw (eq-eqb (length (x ∷ xs)) count e, ← e, p, take_all (length (x ∷ xs)) (x ∷ xs) (omega arith))

@@ -35,9 +35,10 @@ fn answer_tables(
     let zeros = [0u32; 64];
     let words = &zeros[0..word_count];
     let deviation = reals[2];
-    let fault = check_layer_tables(figures[1], endpoints, heights, curve);
-    print::number(rt, fault.number as u64)?;
-    print::number(rt, fault.index as u64)?;
+    print::verdict(
+        rt,
+        check_layer_tables(figures[1], endpoints, heights, curve),
+    )?;
     error_draws::draw_coefficients(rt, deviation, request, endpoints, heights, curve, words)?;
     error_draws::draw_rows(rt, deviation, request, endpoints, heights, curve, words)?;
     key_draws::draw_coefficients(rt, deviation, request, endpoints, heights, curve, words)?;

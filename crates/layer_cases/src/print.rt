@@ -1,5 +1,5 @@
 // What the program prints.
-use primus_distr::Answer;
+use primus_distr::{Answer, LayerFault};
 use std::io;
 
 // A number in decimal, and a space after it.
@@ -10,6 +10,17 @@ pub(crate) fn number(rt: &impl Print, value: u64) -> io::Result<()> {
 // Says that a line has another form.
 pub(crate) fn bad_line(rt: &impl Print) -> io::Result<()> {
     print!(rt; "bad line\n")
+}
+
+// The verdict on layer tables: the number and the index, both 0 for good ones.
+pub(crate) fn verdict(rt: &impl Print, checked: Result<(), LayerFault>) -> io::Result<()> {
+    match checked {
+        Ok(()) => print!(rt; "0 0 "),
+        Err(fault) => {
+            number(rt, fault.refusal.number() as u64)?;
+            number(rt, fault.index as u64)
+        }
+    }
 }
 
 // A draw's answer: number, index, place and both sums; and whether its output is empty, holds what it held before, or only zeros.

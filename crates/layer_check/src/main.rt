@@ -40,8 +40,8 @@ fn judge(
     if curve.len() < c {
         return Ok(());
     }
-    let fault = check_layer_tables(support, &endpoints[0..e], &heights[0..h], &curve[0..c]);
-    print::verdict(rt, fault.number, fault.index, counts, support)
+    let checked = check_layer_tables(support, &endpoints[0..e], &heights[0..h], &curve[0..c]);
+    print::verdict(rt, checked, counts, support)
 }
 
 // Reads a text and prints the verdict on its tables, or which number of it is bad.

@@ -1,4 +1,6 @@
 // What the program prints.
+use distr::refusal::Refusal;
+use layer_tables::LayerFault;
 use std::io;
 
 // The lengths of the lists beside those that fit.
@@ -14,17 +16,23 @@ fn lengths(rt: &impl Print, counts: &[usize; 6], support: u64) -> io::Result<()>
     )
 }
 
-// What a number means: of which entry, and what its list must be.
-fn meaning(rt: &impl Print, fault_number: u32, index: usize, support: u64) -> io::Result<()> {
-    match fault_number {
-        0 => println!(rt; "the tables are good"),
-        30 => {
+// What a fault means: of which entry, and what its list must be.
+fn meaning(
+    rt: &impl Print,
+    fault: LayerFault,
+    counts: &[usize; 6],
+    support: u64,
+) -> io::Result<()> {
+    let index = fault.index;
+    match fault.refusal {
+        Refusal::InvalidLayerTables => lengths(rt, counts, support),
+        Refusal::InvalidEndpoint => {
             print!(rt;
                 "endpoint {index} is wrong: the first is 0, none is below the one before it, "
             )?;
             println!(rt; "and the last is {support}")
         }
-        31 => {
+        Refusal::InvalidHeight => {
             print!(rt; "height {index} is wrong: each is finite, the first is above 0.999, ")?;
             println!(rt; "the others are below the one before them, and the last is 0")
         }
@@ -32,19 +40,21 @@ fn meaning(rt: &impl Print, fault_number: u32, index: usize, support: u64) -> io
     }
 }
 
-// The number and the index, and what they mean; so many numbers stand on each line of the text.
+// The number and the index, both 0 for good tables, and what they mean; so many numbers stand on each line of the text.
 pub(crate) fn verdict(
     rt: &impl Print,
-    fault_number: u32,
-    index: usize,
+    checked: Result<(), LayerFault>,
     counts: &[usize; 6],
     support: u64,
 ) -> io::Result<()> {
-    print!(rt; "{fault_number} {index} ")?;
-    if fault_number == 13 {
-        return lengths(rt, counts, support);
-    }
-    meaning(rt, fault_number, index, support)
+    let fault = match checked {
+        Ok(()) => return println!(rt; "0 0 the tables are good"),
+        Err(fault) => fault,
+    };
+    let number = fault.refusal.number();
+    let index = fault.index;
+    print!(rt; "{number} {index} ")?;
+    meaning(rt, fault, counts, support)
 }
 
 // Which number of the text is bad, and what should stand there.

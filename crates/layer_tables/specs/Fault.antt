@@ -1,9 +1,24 @@
 -- What is wrong with layer tables, as a function hands it back.
-use Rattle.std.specs.Prelude.{ℕ}
+use Rattle.std.specs.Prelude.{ℕ, cond, ltb, Option, Some, None, Result, Ok, Err}
+use Rattle.distr.specs.Refusals.{number as refusal_number}
 use Rattle.distr.specs.Layered.{Layers}
 use Rattle.distr.specs.Numbers.{layer_number, layer_index}
 use Rattle.layer_tables.specs.declared.LayerFault.{LayerFault}
 
--- 02 [6]: the number, and the index that goes with it.
-abbrev pub layer_fault : ℕ → Layers → LayerFault
+-- 02 [6]: a number, and the index that goes with it.
+pub record Fault : Type 0 where
+  pub number : ℕ
+  pub index : ℕ
+
+-- The number and the index of tables of a support.
+abbrev pub layer_fault : ℕ → Layers → Fault
 layer_fault M t = record { number = layer_number M t; index = layer_index M t (layer_number M t) }
+
+-- What a function says of the tables: 0 and 0 where nothing is wrong.
+abbrev pub told : {A : Type 0} → Result A LayerFault → Fault
+told (Ok a) = record { number = 0; index = 0 }
+told (Err fault) = record { number = refusal_number fault.refusal; index = fault.index }
+
+-- A search's first wrong index of n entries, which is n where none is wrong, as a function hands it back.
+abbrev pub wrong_at : ℕ → ℕ → Option ℕ
+wrong_at n i = cond (ltb i n) (Some i) None

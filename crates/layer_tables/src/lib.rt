@@ -4,19 +4,29 @@
 
 ghost use Rattle.std.specs.Prelude.{cond, ◌≡◌, eqb};
 ghost use Rattle.distr.specs.Layered.{all_finite, falls, all_in_unit, height_list, curve_list, layer_tables};
-ghost use Rattle.layer_tables.specs.Fault.{layer_fault};
+ghost use Rattle.distr.specs.Refusals.{number, number_of};
+ghost use Rattle.layer_tables.specs.Fault.{layer_fault, told};
+ghost use Rattle.layer_tables.specs.Lent.{lent_tables};
 
-use distr::refusal::{INVALID_CURVE_VALUE, INVALID_ENDPOINT, INVALID_HEIGHT, INVALID_LAYER_TABLES};
+use distr::refusal::Refusal;
 use first_wrong::{first_wrong_endpoint, first_wrong_height, first_wrong_value, sizes_ok};
 use gaussian_core::rising::rising_ok;
 
 mod first_wrong;
 
-// What is wrong with layer tables: the number, and the first wrong index where the number names one.
-#[derive(Clone, Copy)]
+// What is wrong with layer tables: why they are refused, and the first wrong index where the refusal names a list.
+#[derive(Clone, Copy, Debug, PartialEq, Eq)]
 pub struct LayerFault {
-    pub number: u32,
+    pub refusal: Refusal,
     pub index: usize,
+}
+
+// The three lent tables of a layered draw.
+#[derive(Clone, Copy)]
+pub struct LayerTables<'a> {
+    pub endpoints: &'a [u64],
+    pub heights: &'a [f64],
+    pub curve: &'a [f64],
 }
 
 // Whether each element is a number and no infinity.
@@ -24,10 +34,8 @@ fn all_finite(xs: &[f64]) -> bool
     ensures { result ≡ all_finite xs.now }
 {
     let mut ok = true;
-    let mut i: usize = 0;
-    while i < xs.len() {
-        ok = ok & probability::is_finite(xs[i]);
-        i += 1;
+    for x in xs {
+        ok &= probability::is_finite(*x);
     }
     ok
 }
@@ -37,10 +45,8 @@ fn falls(xs: &[f64]) -> bool
     ensures { result ≡ falls xs.now }
 {
     let mut ok = true;
-    let mut i: usize = 1;
-    while i < xs.len() {
-        ok = ok & (xs[i] < xs[i - 1]);
-        i += 1;
+    for i in 1..xs.len() {
+        ok &= xs[i] < xs[i - 1];
     }
     ok
 }
@@ -50,11 +56,8 @@ fn all_in_unit(xs: &[f64]) -> bool
     ensures { result ≡ all_in_unit xs.now }
 {
     let mut ok = true;
-    let mut i: usize = 0;
-    while i < xs.len() {
-        let x = xs[i];
-        ok = ok & ((0.0 <= x) & (x <= 1.0));
-        i += 1;
+    for x in xs {
+        ok &= (0.0 <= *x) & (*x <= 1.0);
     }
     ok
 }
@@ -64,10 +67,7 @@ fn heights_ok(layers: usize, heights: &[f64]) -> bool
     ensures { result ≡ height_list layers heights.now }
 {
     let n = heights.len();
-    if n == 0 {
-        return false;
-    }
-    if n - 1 != layers {
+    if n == 0 || n - 1 != layers {
         return false;
     }
     all_finite(heights) & falls(heights) & (0.999 < heights[0]) & (heights[layers] == 0.0)
@@ -78,97 +78,100 @@ fn curve_ok(maximum_magnitude: u64, curve: &[f64]) -> bool
     ensures { result ≡ curve_list maximum_magnitude curve.now }
 {
     let n = curve.len();
-    if n == 0 {
-        return false;
-    }
-    if (n - 1) as u64 != maximum_magnitude {
+    if n == 0 || (n - 1) as u64 != maximum_magnitude {
         return false;
     }
     all_in_unit(curve)
 }
 
 // Whether the three tables are those of a support: 128, 256 or 512 layers.
-fn layer_tables_ok(
-    maximum_magnitude: u64,
-    endpoints: &[u64],
-    heights: &[f64],
-    curve: &[f64],
-) -> bool
-    ensures { result ≡ layer_tables maximum_magnitude
-        (record { endpoints = endpoints.entry.now; heights = heights.now; curve = curve.now }) }
+fn layer_tables_ok(maximum_magnitude: u64, tables: LayerTables) -> bool
+    ensures { result ≡ layer_tables maximum_magnitude (lent_tables tables.entry) }
 {
-    let n = endpoints.len();
+    let n = tables.endpoints.len();
     if n == 0 {
         return false;
     }
     let layers = n - 1;
     if (layers == 128) | (layers == 256) | (layers == 512) {
-        rising_ok(n, maximum_magnitude, endpoints)
-            & heights_ok(layers, heights)
-            & curve_ok(maximum_magnitude, curve)
+        rising_ok(n, maximum_magnitude, tables.endpoints)
+            & heights_ok(layers, tables.heights)
+            & curve_ok(maximum_magnitude, tables.curve)
     } else {
         false
     }
 }
 
-// A number with the index that goes with it.
-fn fault(number: u32, index: usize) -> LayerFault
-    ensures { result ≡ record { number = number; index = index } }
+// Refuses tables, with the index that goes with the refusal.
+fn refuse(refusal: Refusal, index: usize) -> Result<(), LayerFault>
+    ensures { told result ≡ record { number = number refusal; index = index } }
 {
-    LayerFault { number, index }
+    Err(LayerFault { refusal, index })
 }
 
 // What is wrong with refused tables: 13 for a length, before the lists in their order, each with the first index that is wrong.
-fn find_fault(
-    maximum_magnitude: u64,
-    endpoints: &[u64],
-    heights: &[f64],
-    curve: &[f64],
-) -> LayerFault
-    ensures { result ≡ layer_fault maximum_magnitude
-        (record { endpoints = endpoints.entry.now; heights = heights.now; curve = curve.now }) }
+#[tactic(auto, using(crate::proofs::Faults::faults))]
+fn find_fault(maximum_magnitude: u64, tables: LayerTables) -> Result<(), LayerFault>
+    ensures { told result ≡ layer_fault maximum_magnitude (lent_tables tables.entry) }
 {
-    if !sizes_ok(maximum_magnitude, endpoints, heights, curve) {
-        return fault(INVALID_LAYER_TABLES, 0);
+    if !sizes_ok(maximum_magnitude, tables) {
+        return refuse(Refusal::InvalidLayerTables, 0);
     }
-    let endpoint = first_wrong_endpoint(maximum_magnitude, endpoints);
-    if endpoint < endpoints.len() {
-        return fault(INVALID_ENDPOINT, endpoint);
+    if let Some(endpoint) = first_wrong_endpoint(maximum_magnitude, tables.endpoints) {
+        return refuse(Refusal::InvalidEndpoint, endpoint);
     }
-    let height = first_wrong_height(heights);
-    if height < heights.len() {
-        return fault(INVALID_HEIGHT, height);
+    if let Some(height) = first_wrong_height(tables.heights) {
+        return refuse(Refusal::InvalidHeight, height);
     }
-    let value = first_wrong_value(curve);
-    if value < curve.len() {
-        return fault(INVALID_CURVE_VALUE, value);
+    if let Some(value) = first_wrong_value(tables.curve) {
+        return refuse(Refusal::InvalidCurveValue, value);
     }
-    fault(0, 0)
+    Ok(())
 }
 
-// What is wrong with the tables that are lent to a draw, number 0 where nothing is. Good tables cost the test alone: the fault is looked for only
+// What is wrong with the tables that are lent to a draw, if anything is. Good tables cost the test alone: the fault is looked for only
 // where it fails.
+#[tactic(auto, using(crate::proofs::Faults::good_fault))]
 pub fn check_layer_tables(
     maximum_magnitude: u64,
     endpoints: &[u64],
     heights: &[f64],
     curve: &[f64],
-) -> LayerFault
-    ensures { result ≡ layer_fault maximum_magnitude
+) -> Result<(), LayerFault>
+    ensures { told result ≡ layer_fault maximum_magnitude
         (record { endpoints = endpoints.entry.now; heights = heights.now; curve = curve.now }) }
 {
-    if layer_tables_ok(maximum_magnitude, endpoints, heights, curve) {
-        fault(0, 0)
+    let tables = LayerTables {
+        endpoints,
+        heights,
+        curve,
+    };
+    if layer_tables_ok(maximum_magnitude, tables) {
+        Ok(())
     } else {
-        find_fault(maximum_magnitude, endpoints, heights, curve)
+        find_fault(maximum_magnitude, tables)
     }
 }
 
-// The index that goes with a draw's number: the fault's where the tables are what refuses the draw, else 0.
-pub fn index_with(number: u32, fault: LayerFault) -> usize
-    ensures { result ≡ cond (eqb number fault.number) fault.index 0 }
+// What a check of the tables says without its index.
+pub fn refusal_of(checked: Result<(), LayerFault>) -> Result<(), Refusal>
+    ensures { number_of result ≡ (told checked).number }
 {
-    if number != fault.number {
+    match checked {
+        Ok(()) => Ok(()),
+        Err(fault) => Err(fault.refusal),
+    }
+}
+
+// The index that goes with a draw's refusal: the fault's where the tables are what refuses the draw, else 0.
+pub fn index_with(why: Refusal, checked: Result<(), LayerFault>) -> usize
+    ensures { result ≡ cond (eqb (number why) (told checked).number) (told checked).index 0 }
+{
+    let fault = match checked {
+        Ok(()) => return 0,
+        Err(fault) => fault,
+    };
+    if why.number() != fault.refusal.number() {
         return 0;
     }
     fault.index

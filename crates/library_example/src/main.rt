@@ -8,7 +8,7 @@ mod refusals;
 use primus_distr::{
     BlockOccupancy, CenteredBinomial, ErrorDistribution, ErrorSampler, SecretKeyDistr,
     SecretKeySampler, SignedDiscreteGaussian, TernarySampler, check_layer_tables, crt_row,
-    crt_row_range, draw_question, residue_report, residues, sample_poly_cbd, signed,
+    crt_row_range, draw_question, number_of, residue_report, residues, sample_poly_cbd, signed,
 };
 use std::io;
 
@@ -73,10 +73,10 @@ fn gaussian(rt: &impl Print) -> io::Result<()> {
 // first that is wrong, since it is not 768. With 129 curve values the lengths do not fit: 13. A draw by the lists is refused by 30 with that index; one
 // from a place past the words by 22, with index 0.
 fn layers(rt: &impl Print, endpoints: &[u64], heights: &[f64], curve: &[f64]) -> io::Result<()> {
-    let fault = check_layer_tables(768, endpoints, heights, curve);
-    print::index_line(rt, b"layers of zeros", fault.number, fault.index)?;
+    let checked = check_layer_tables(768, endpoints, heights, curve);
+    print::tables_line(rt, b"layers of zeros", checked)?;
     let fewer = check_layer_tables(768, endpoints, heights, heights);
-    print::index_line(rt, b"curve values too few", fewer.number, fewer.index)?;
+    print::tables_line(rt, b"curve values too few", fewer)?;
     layered(rt, b"a draw by them", endpoints, heights, curve, 1)?;
     layered(rt, b"one from place 2", endpoints, heights, curve, 2)
 }
@@ -157,7 +157,7 @@ fn reports(rt: &impl Print) -> io::Result<()> {
 // the bytes of another eta by 28.
 fn polynomial(rt: &impl Print, name: &[u8], eta: u32) -> io::Result<()> {
     let mut f = [9u64; 256];
-    let number = sample_poly_cbd(&mut f, eta, &[0xc7; 128]);
+    let number = number_of(sample_poly_cbd(&mut f, eta, &[0xc7; 128]));
     print::polynomial_line(rt, name, number, &[f[0], f[1], f[254], f[255]])
 }
 

@@ -1,5 +1,5 @@
 // Lines on standard output.
-use primus_distr::{Answer, Report};
+use primus_distr::{Answer, LayerFault, Report};
 use std::io;
 
 // The name, the number and the place.
@@ -46,6 +46,18 @@ pub(crate) fn index_line(
 ) -> io::Result<()> {
     head(rt, name, number, index)?;
     end(rt)
+}
+
+// A line of what a check of layer tables says: both are 0 for good ones.
+pub(crate) fn tables_line(
+    rt: &impl Print,
+    name: &[u8],
+    checked: Result<(), LayerFault>,
+) -> io::Result<()> {
+    match checked {
+        Ok(()) => index_line(rt, name, 0, 0),
+        Err(fault) => index_line(rt, name, fault.refusal.number(), fault.index),
+    }
 }
 
 // A line of a signed draw.

@@ -2,7 +2,7 @@
 use crate::print;
 use primus_distr::{
     BlockOccupancy, GaussianParameters, SecretKeyDistr, SecretKeySampler, SignedDiscreteGaussian,
-    TernaryEnds, TernarySampler, residues, signed,
+    TernaryEnds, TernarySampler, number_of, residues, signed,
 };
 use std::io;
 
@@ -45,7 +45,7 @@ pub(crate) fn states(rt: &impl Print) -> io::Result<()> {
         standard_deviation: 0.5,
     });
     let empty = made.sampler;
-    let number = empty.validate_modulus(17);
+    let number = number_of(empty.validate_modulus(17));
     print::number_line(rt, b"modulus of an empty sampler", number)
 }
 

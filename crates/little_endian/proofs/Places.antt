@@ -1,13 +1,14 @@
 -- Coefficients written one after the other, each into its eight bytes.
 use mathlib.Core.Path.{◌≡◌, sym, ap, ◌∙◌}
-use mathlib.Core.List.{List, [], ◌∷◌, ◌++◌, map, append_assoc}
-use Prim.Native.Nat.{ℕ, suc, ◌+◌, ◌-◌, ◌*◌, ◌/◌, ◌%◌, ◌^◌, ◌<◌, ◌≤◌}
-use native.Mathlib.Nat.{le_refl, mul_comm, mod-eq_of_lt, div-div-eq-div-mul}
+use mathlib.Core.List.{List, ◌++◌, map, append_assoc}
+use Prim.Native.Nat.{ℕ, suc, ◌+◌, ◌-◌, ◌*◌, ◌^◌, ◌<◌, ◌≤◌}
+use native.Mathlib.Nat.{le_refl, mul_comm, div-div-eq-div-mul}
 use native.Mathlib.Omega.{arith}
 use borrow.Rule.Slice.PartMut.{put_mid}
 use lib.ListN.{length, get_or, take, drop, length-map, get_or-map}
 use lib.Seq.{drop-cons, drop-drop, take-take, take_at}
 use lib.IntN.{ℤ, pos}
+use Rattle.std.specs.Int.{w64, to_le_bytes}
 use Rattle.distr.specs.Packed.{digits, split}
 use Rattle.distr.specs.Encoding.{encode}
 use Rattle.distr.proofs.Digits.{length_digits, drop-split}
@@ -17,22 +18,9 @@ use Rattle.little_endian.proofs.OneToOne.{length-bytes}
 
 -- ---- the eight bytes of a number
 
--- as the code takes them out of it
-abbrev pub eight_bytes : ℕ → List ℕ
-eight_bytes x =
-    x % 2 ^ 8
-    ∷ x / 2 ^ 8 % 2 ^ 8
-    ∷ x / 2 ^ 16 % 2 ^ 8
-    ∷ x / 2 ^ 24 % 2 ^ 8
-    ∷ x / 2 ^ 32 % 2 ^ 8
-    ∷ x / 2 ^ 40 % 2 ^ 8
-    ∷ x / 2 ^ 48 % 2 ^ 8
-    ∷ x / 2 ^ 56
-    ∷ []
-
-pub eight_digits : (x : ℕ) → x < 2 ^ 64 → eight_bytes x ≡ digits 256 8 x
+pub eight_digits : (x : ℕ) → to_le_bytes w64 x ≡ digits 256 8 x
 unfolding digits
-eight_digits x h =
+eight_digits x =
     rw (
       div-div-eq-div-mul x (2 ^ 8) 256,
       div-div-eq-div-mul x (2 ^ 16) 256,
@@ -40,7 +28,6 @@ eight_digits x h =
       div-div-eq-div-mul x (2 ^ 32) 256,
       div-div-eq-div-mul x (2 ^ 40) 256,
       div-div-eq-div-mul x (2 ^ 48) 256,
-      mod-eq_of_lt {n = x / 2 ^ 56} {m = 256} (omega arith),
     )
 
 -- ---- a part that was lent

@@ -2,24 +2,12 @@
 ghost use Rattle.std.specs.Prelude.{◌≡◌, cond, ◌+◌, ◌*◌, ◌<◌, ◌≤◌, eqb, length, get_or};
 ghost use Rattle.little_endian.specs.LittleEndian.{u32_at, words_in};
 
-// A byte, as a number.
-fn byte_at(bytes: &[u8], at: usize) -> u32
-    requires { at < length bytes.now }
-    ensures value { result ≡ get_or bytes.now at 0 }
-    ensures upper_bound { result < 256 }
-{
-    bytes[at] as u32
-}
-
 // The little-endian u32 that begins at a byte.
 fn read_u32(bytes: &[u8], at: usize) -> u32
     requires { at + 4 ≤ length bytes.now }
     ensures { result ≡ u32_at bytes.now at }
 {
-    byte_at(bytes, at)
-        + byte_at(bytes, at + 1) * 0x100
-        + byte_at(bytes, at + 2) * 0x1_0000
-        + byte_at(bytes, at + 3) * 0x100_0000
+    u32::from_le_bytes([bytes[at], bytes[at + 1], bytes[at + 2], bytes[at + 3]])
 }
 
 // Reads the words that stand in the bytes, four bytes each. Where the bytes are not four times as many as the words, nothing is written.
@@ -32,9 +20,7 @@ pub fn read_words(words: &mut [u32], bytes: &[u8])
     if (size / 4 != n) | (size % 4 != 0) {
         return;
     }
-    let mut i = 0;
-    while i < n {
+    for i in 0..n {
         words[i] = read_u32(bytes, 4 * i);
-        i += 1;
     }
 }

@@ -34,11 +34,11 @@ use Rattle.signed_discrete_gaussian.proofs.Backends.{draw-small, draw_large}
 use Rattle.methods.specs.declared.SamplingMethod.{SamplingMethod}
 use Rattle.methods.specs.declared.SamplingMethod.TheVariants.{Gaussian}
 use Rattle.methods.specs.Method.{magnitude_of, length_of}
-use Rattle.secret_key_method.specs.Method.{prepared, preparing as preparing_secret}
+use Rattle.secret_key_method.specs.Method.{prepared}
 use Rattle.secret_key_method.proofs.Prepared.{prepared-magnitude as secret-magnitude, prepared-length as secret-length}
 use Rattle.error_method.specs.Method.{prepared as prepared_error}
 use Rattle.error_method.proofs.Prepared.{prepared-magnitude as error-magnitude, prepared-length as error-length}
-use Rattle.method_draws.specs.Drawing.{prepared_method, preparing, method_draw, method_skips}
+use Rattle.method_draws.specs.Drawing.{prepared_method, method_draw, method_skips}
 
 -- the parameters that are prepared for an accepted eta pass their family's test
 pub prepared-binomial : (eta : ℕ) → error_number (Error.CenteredBinomial eta) ≡ 0 → is_made_binomial (parameters_of eta) ≡ true
@@ -165,8 +165,3 @@ pub prepared-length : (d : Distr) (n : ℕ) → length_of (prepared_method d) n 
 unfolding prepared_method
 prepared-length (secret d) n = secret-length d n
 prepared-length (error d) n = error-length d n
-
--- What is prepared for either kind is what the definition prepares.
-pub secret-preparing : (d : SecretKeyDistr) → preparing_secret d ≡ preparing (secret d)
-unfolding prepared_method making_number
-secret-preparing d = refl

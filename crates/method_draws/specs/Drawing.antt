@@ -8,29 +8,23 @@ use Rattle.distr.specs.Blocks.{block_binary}
 use Rattle.distr.specs.Skipped.{Skipped, nothing}
 use Rattle.distr.specs.CenteredBinomial.{centered_binomial}
 use Rattle.distr.specs.Distribution.{Distr, secret, error, Tables, gaussian_read, gaussian_skips}
-use Rattle.distr.specs.Making.{making_number}
 use Rattle.distr.specs.Constants.{never_made}
 use Rattle.distr.specs.Numbers.{bad_weight, bad_blocks, layer_index, gaussian_table}
 use Rattle.distr.specs.Draw.{Outcome, naming, read_draw, rule_draw}
 use Rattle.words.specs.Reading.{threshold_value}
 use Rattle.ternary.specs.Sampler.{sampler_rule}
 use Rattle.centered_binomial.specs.Binomial.{binomial_draw}
-use Rattle.methods.specs.declared.PreparedMethod.{PreparedMethod}
 use Rattle.methods.specs.declared.SamplingMethod.{SamplingMethod}
 use Rattle.methods.specs.declared.SamplingMethod.TheVariants.{UniformBinary, Binary, SparseTernary, UniformTernary, Ternary, Empty}
 use Rattle.methods.specs.declared.SamplingMethod.TheVariants.{FixedHammingWeightBinary, BlockBinary, Gaussian, CenteredBinomial}
 use Rattle.methods.specs.declared.SamplingMethod.TheVariants.{FixedHammingWeightTernary, FixedCompositionTernary}
-use Rattle.methods.specs.Method.{judged_method}
 use Rattle.secret_key_method.specs.Method.{prepared as prepared_secret}
 use Rattle.error_method.specs.Method.{prepared as prepared_error}
 
--- The method that making prepares for a distribution of either kind, with its number.
+-- The method that making prepares for a distribution of either kind, where its number is 0.
 unfoldable pub prepared_method : Distr → SamplingMethod
 prepared_method (secret d) = prepared_secret d
 prepared_method (error d) = prepared_error d
-
-abbrev pub preparing : Distr → PreparedMethod
-preparing d = judged_method (making_number d) (prepared_method d)
 
 -- What a method draws into the whole output; the empty one draws nothing. `write` says how coefficients are held in the output.
 unfoldable pub method_draw : {A : Type 0} → (List ℤ → List A) → SamplingMethod → Tables → List ℕ → ℕ → List A → Outcome A

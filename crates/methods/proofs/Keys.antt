@@ -6,7 +6,7 @@ use lib.Ieee.{eq}
 use lib.Ieee.Fits.{and_l, and_r}
 use borrow.Author.Tests.{eq-eqb}
 use Rattle.gaussian_core.proofs.SameFloat.{beq_same, beq_self}
-use Rattle.methods.specs.declared.key.MethodKey.{MethodKey}
+use Rattle.methods.specs.Keys.{MethodKey}
 use Rattle.methods.specs.Keys.{same_key}
 
 -- The test of two keys, taken apart.

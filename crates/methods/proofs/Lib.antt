@@ -3,3 +3,4 @@ pub mod Keys
 pub mod Deviation
 pub mod SameMethod
 pub mod MethodFloats
+pub mod Equal

@@ -16,7 +16,7 @@ use Rattle.ternary.specs.declared.ternary.TernaryValue.TheVariants.{MinusOne, Ze
 use Rattle.ternary.specs.declared.ternary.TernaryEnds.{TernaryEnds}
 use Rattle.ternary.specs.declared.ternary.TernaryEnds.TheVariants.{Constant, Nonzero, General}
 use Rattle.gaussian_core.proofs.SameFloat.{eq-same}
-use Rattle.methods.specs.declared.key.MethodKey.{MethodKey}
+use Rattle.methods.specs.Keys.{MethodKey}
 use Rattle.methods.specs.declared.SamplingMethod.{SamplingMethod}
 use Rattle.methods.specs.declared.SamplingMethod.TheVariants.{UniformBinary, Binary, SparseTernary, UniformTernary, Ternary, Empty}
 use Rattle.methods.specs.declared.SamplingMethod.TheVariants.{FixedHammingWeightBinary, BlockBinary, Gaussian, CenteredBinomial}

@@ -11,7 +11,14 @@ use Rattle.methods.specs.declared.SamplingMethod.{SamplingMethod}
 use Rattle.methods.specs.declared.SamplingMethod.TheVariants.{UniformBinary, Binary, SparseTernary, UniformTernary, Ternary, Empty}
 use Rattle.methods.specs.declared.SamplingMethod.TheVariants.{FixedHammingWeightBinary, BlockBinary, Gaussian, CenteredBinomial}
 use Rattle.methods.specs.declared.SamplingMethod.TheVariants.{FixedHammingWeightTernary, FixedCompositionTernary}
-use Rattle.methods.specs.declared.key.MethodKey.{MethodKey}
+
+-- One record for all methods: the kind, and what it holds (0 where it holds nothing).
+pub record MethodKey : Type 0 where
+  pub kind : ℕ
+  pub full : Bool
+  pub first : ℕ
+  pub second : ℕ
+  pub deviation : Float
 
 abbrev pub key_of : ℕ → Bool → ℕ → ℕ → Float → MethodKey
 key_of kind full first second deviation = record { kind = kind; full = full; first = first; second = second; deviation = deviation }

@@ -1,21 +1,10 @@
--- A prepared method: the number that goes with it, and what it takes of lengths, moduli and calls.
-use Rattle.std.specs.Prelude.{ℕ, ◌+◌, Bool, cond, not, eqb}
-use Rattle.distr.specs.Constants.{never_made}
-use Rattle.distr.specs.Making.{refuse}
+-- A prepared method: its largest magnitude, and what it takes of lengths.
+use Rattle.std.specs.Prelude.{ℕ, ◌+◌}
 use Rattle.distr.specs.Numbers.{bad_weight, bad_blocks}
-use Rattle.methods.specs.declared.PreparedMethod.{PreparedMethod}
 use Rattle.methods.specs.declared.SamplingMethod.{SamplingMethod}
 use Rattle.methods.specs.declared.SamplingMethod.TheVariants.{UniformBinary, Binary, SparseTernary, UniformTernary, Ternary, Empty}
 use Rattle.methods.specs.declared.SamplingMethod.TheVariants.{FixedHammingWeightBinary, BlockBinary, Gaussian, CenteredBinomial}
 use Rattle.methods.specs.declared.SamplingMethod.TheVariants.{FixedHammingWeightTernary, FixedCompositionTernary}
-
--- The number of making and, where it is 0, the method.
-abbrev pub judged_method : ℕ → SamplingMethod → PreparedMethod
-judged_method number method = record { number = number; method = cond (eqb number 0) method Empty }
-
--- "21 a sampler that making never gives": `made` says whether making gives the sampler that holds the method.
-abbrev pub tested_method : Bool → SamplingMethod → PreparedMethod
-tested_method made method = record { number = refuse (not made) never_made; method = method }
 
 -- "Largest magnitude (M, eta, else 1)", as the method keeps it.
 abbrev pub magnitude_of : SamplingMethod → ℕ

@@ -10,15 +10,18 @@ use lib.ListN.{length, get_or, drop, replicate, length-drop}
 use lib.Seq.{get_or-drop}
 use lib.IntN.{ℤ, pos}
 use Rattle.distr.specs.declared.answer.Answer.{Answer}
+use Rattle.distr.specs.declared.refusal.Refusal.{Refusal}
 use Rattle.distr.specs.Words.{got, short, map_read}
 use Rattle.distr.specs.Rule.{Rule, constant, wide_words}
 use Rattle.distr.specs.Numbers.{first_of}
 use Rattle.distr.specs.Skipped.{Skipped, nothing}
-use Rattle.distr.specs.Answers.{sums, reported}
+use Rattle.distr.specs.Answers.{success, refusal, sums, reported}
+use Rattle.distr.specs.Refusals.{number}
 use Rattle.distr.specs.Draw.{Outcome, outcome, rule_draw}
 use Rattle.distr.proofs.Reading.{wides, many-wide}
 use Rattle.distr.proofs.Writing.{map-map, map-replicate}
 use Rattle.distr.proofs.Drawing.{rule-got, rule-short}
+use Rattle.distr.proofs.Refusals.{refuses-eqb}
 use Rattle.distr.proofs.Skipping.{reports_nothing}
 use Rattle.numbers.proofs.Refusing.{draw_number, number_passed, rule-refused}
 use Rattle.numbers.specs.Answering.{wide_read, wide_rule, number_of, answer_by, answer_of}
@@ -119,6 +122,33 @@ module _ {A : Type 0} (write : List ℤ → List A) (f : ℤ → A) (each : (cs 
         let all : final ≡ map pick (wides n ws) = cc in
         by_answer
         (rw (z, r) (all ∙ map-wides pick (λ w. f (value w)) same n ws (λ i. rw (get_or-drop place words i 0) (bounded (place + i)))))
+
+-- The same by where such a draw ends, or by its refusal; z is the zero that is written where a word is missing.
+module _ {A : Type 0} (write : List ℤ → List A) (f : ℤ → A) (each : (cs : List ℤ) → write cs ≡ map f cs) {z : A} (zero-held : f (pos 0) ≡ z)
+    (own : ℕ) (low : own < 23) (words : List ℕ) (place : ℕ) (out : List A) (v : ℤ) (value : ℕ → ℤ) (rule : Rule) (reads : Bool)
+    (kind : rule ≡ wide_rule reads v value (length out)) where
+  pub refuses_draw : (why : Refusal) {final : List A} {a : Answer} → refusal (number why) place ≡ answer_of own reads (length words) place (length out)
+      → a ≡ refusal (number why) place → final ≡ cond (eqb (number why) 23) (replicate (length out) z) out
+      → outcome a final ≡ rule_draw write own rule words place out
+  refuses_draw why {final} {a} e is written =
+      by_answer write f each own low words place out v value rule reads kind a (is ∙ e) final
+      (rw (is, refuses-eqb why, zero-held) written)
+
+  pub ends-constant : {after : ℕ} {final : List A} {a : Answer} → success after ≡ answer_of own reads (length words) place (length out)
+      → a ≡ success after → reads ≡ false → final ≡ replicate (length out) (f v) → outcome a final ≡ rule_draw write own rule words place out
+  ends-constant {after} {final} {a} e is r written =
+      draw-constant write f each own low words place out v value rule reads kind a (is ∙ e) final (rw is refl) r written
+
+  pub ends_read : {after : ℕ} {final : List A} {a : Answer} → success after ≡ answer_of own reads (length words) place (length out)
+      → a ≡ success after → reads ≡ true → ((i : ℕ) → get_or words i 0 < 2 ^ 32)
+      → wide_read (λ w. f (value w)) (length out) (drop place words) ≡ got final (drop (place + 2 * length out) words)
+      → outcome a final ≡ rule_draw write own rule words place out
+  ends_read {after} {final} {a} e is r bounded p =
+      draw_read write f each own low words place out v value rule reads kind a (is ∙ e) final (rw is refl) r bounded (λ w. f (value w)) (λ w h. refl) p
+
+  -- where it reads, the words are there
+  pub ends-enough : {after : ℕ} → success after ≡ answer_of own reads (length words) place (length out) → reads ≡ true → place + 2 * length out ≤ length words
+  ends-enough {after} e r = answer-enough own (length words) place (length out) {a = success after} (rw r at e) refl
 
 -- the answer of a draw that skips nothing says so, whatever its number
 pub answer_reports : (own : ℕ) (reads : Bool) (count place n : ℕ) {s : Skipped} {a : Answer} → a ≡ answer_of own reads count place n → s ≡ nothing

@@ -1,6 +1,9 @@
 -- One 64-bit word an element: what is read, and what a draw answers.
-use Rattle.std.specs.Prelude.{ℕ, ◌+◌, ◌*◌, ◌-◌, Bool, cond, ◌&&◌, List, [], ◌∷◌, map, ltb, eqb, ℤ}
+use Rattle.std.specs.Prelude.{ℕ, ◌+◌, ◌*◌, ◌-◌, Bool, cond, ◌&&◌, List, [], ◌∷◌, map, ltb, eqb, ℤ, Result, Ok, Err}
 use Rattle.distr.specs.declared.answer.Answer.{Answer}
+use Rattle.distr.specs.declared.refusal.Refusal.{Refusal}
+use Rattle.distr.specs.Answers.{success, refusal}
+use Rattle.distr.specs.Refusals.{number}
 use Rattle.distr.specs.Words.{Read, map_read, many, wide}
 use Rattle.distr.specs.Rule.{Rule, constant, wide_words}
 use Rattle.distr.specs.Constants.{out_of_words}
@@ -28,3 +31,8 @@ answer_by reads place n number =
 
 abbrev pub answer_of : ℕ → Bool → ℕ → ℕ → ℕ → Answer
 answer_of own reads count place n = answer_by reads place n (number_of own reads count place n)
+
+-- The answer of a draw from a place that ends at another, or is refused; such a draw skips nothing.
+abbrev pub answered : ℕ → Result ℕ Refusal → Answer
+answered place (Ok after) = success after
+answered place (Err why) = refusal (number why) place

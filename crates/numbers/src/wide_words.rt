@@ -1,25 +1,28 @@
-// Draws of one 64-bit word a coefficient. What a draw answers is known before its words are looked at, whatever its output holds.
+// Draws of one 64-bit word a coefficient. Where a draw ends, or what refuses it, is known before its words are looked at, whatever its output holds.
 ghost use Rattle.std.specs.Prelude.{◌≡◌};
-ghost use Rattle.numbers.specs.Answering.{answer_of};
+ghost use Rattle.distr.specs.Refusals.{number_of};
+ghost use Rattle.numbers.specs.Answering.{answer_of, answered};
 
-use distr::answer::{Answer, refused, succeeded};
-use distr::refusal::OUT_OF_WORDS;
+use distr::refusal::Refusal;
 
-// The answer of a draw of n coefficients from `place` in `count` words, which reads two words for each or none at all: 22, 6, a number
-// of its own that is not 0, or 23 with the place as it was, or 0 with the place after the words.
+// The place after a draw of n coefficients from `place` in `count` words, which reads two words for each or none at all; 22, 6, what the draw itself
+// says, or 23 where a word is missing.
 #[tactic(auto, unfolding(distr::specs::Numbers::first_of, crate::specs::Answering::number_of))]
-pub fn answer_of(own: u32, reads: bool, count: usize, place: usize, n: usize) -> Answer
-    ensures { result ≡ answer_of own reads count place n }
+pub fn place_after(
+    own: Result<(), Refusal>,
+    reads: bool,
+    count: usize,
+    place: usize,
+    n: usize,
+) -> Result<usize, Refusal>
+    ensures { answered place result ≡ answer_of (number_of own) reads count place n }
 {
-    let number = crate::draw_number(count, place, n, own);
-    if number != 0 {
-        return refused(number, place);
-    }
+    crate::check_draw(count, place, n, own)?;
     if !reads {
-        return succeeded(place);
+        return Ok(place);
     }
     if count - place < 2 * n {
-        return refused(OUT_OF_WORDS, place);
+        return Err(Refusal::OutOfWords);
     }
-    succeeded(place + 2 * n)
+    Ok(place + 2 * n)
 }

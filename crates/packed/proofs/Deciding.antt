@@ -154,17 +154,3 @@ module _ {A : Type 0} (write : List ℤ → List A) (f : ℤ → A) (writes : (c
           (rw (stopped, length-drop at words) (omega arith))
           (looked-up ∙ map-taken 3 entry held (omega arith) agree n 5 ds ∙ sym (map-map f trit_value (take n (split 3 5 ds))))
       go short b p = let never : ◌≡◌ {A = ℕ} 0 1 = cc in absurd (omega arith)
-
--- A claim about the digits below two, three and four, one by one.
-pub below_two : (P : ℕ → Type 0) → P 0 → P 1 → (d : ℕ) → d < 2 → P d
-below_two P p₀ p₁ zero h = p₀
-below_two P p₀ p₁ (suc zero) h = p₁
-below_two P p₀ p₁ (suc (suc d)) h = absurd (omega arith)
-
-pub below-three : (P : ℕ → Type 0) → P 0 → P 1 → P 2 → (d : ℕ) → d < 3 → P d
-below-three P p₀ p₁ p₂ zero h = p₀
-below-three P p₀ p₁ p₂ (suc d) h = below_two (λ k. P (suc k)) p₁ p₂ d (omega arith)
-
-pub below_four : (P : ℕ → Type 0) → P 0 → P 1 → P 2 → P 3 → (d : ℕ) → d < 4 → P d
-below_four P p₀ p₁ p₂ p₃ zero h = p₀
-below_four P p₀ p₁ p₂ p₃ (suc d) h = below-three (λ k. P (suc k)) p₁ p₂ p₃ d (omega arith)

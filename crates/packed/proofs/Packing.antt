@@ -1,11 +1,9 @@
 -- Filling an output word by word: the digits of many words, one after the other, and the values of the first of them.
 use mathlib.Core.Path.{◌≡◌, refl, sym, ap, ◌∙◌}
 use mathlib.Core.List.{List, ◌++◌, map, append-nil}
-use Prim.Native.Nat.{ℕ, suc, ◌+◌, ◌-◌, ◌*◌, ◌/◌, ◌^◌, ◌<◌, ◌≤◌}
-use native.Mathlib.Nat.{zero-mul, suc-mul, le_of_lt, le_of_eq, le_antisymm, mul-le-mul_right, lt_of_mul-lt-mul_right, div-le_self, div-mul-le_self, lt-div-mul-add}
+use Prim.Native.Nat.{ℕ, suc, ◌+◌, ◌-◌, ◌*◌, ◌/◌, ◌<◌, ◌≤◌}
+use native.Mathlib.Nat.{suc-mul, le_of_lt, le_of_eq, le_antisymm, mul-le-mul_right, lt_of_mul-lt-mul_right, div-mul-le_self, lt-div-mul-add}
 use native.Mathlib.Omega.{arith}
-use mir.Syntax.{w64}
-use mir.Val.{Fits}
 use lib.ListN.{length, get_or, take, drop, length-drop, length-map}
 use lib.Seq.{paste, length-paste, take-append-le, take-take}
 use lib.Seq.{drop-cons, get_or-drop, length-take-le, drop-length}
@@ -45,11 +43,6 @@ from_front {A} room vs out at m count h k e f =
     take-append-le count (take m vs) (drop (0 + m) room) (rw (length-take-le m vs k) h) ∙ take-take count m vs h in
     f ∙ ap (λ (l : List A). take at out ++ l ++ drop (at + count) out) (ap (take count) e ∙ front)
 
--- so many words more than a place are a place too
-pub end_fits : {A : Type 0} (words : List ℕ) (out : List A) (place each : ℕ) → place ≤ length words → length words * 4 < 2 ^ 63 → length out * 8 < 2 ^ 63
-    → Fits w64 (place + length out / each)
-end_fits words out place each h k l = record { fits = omega (arith, div-le_self (length out) each) }
-
 module _ {A : Type 0} (base each : ℕ) (z : A) (pairs : List A) (words : List ℕ) (place : ℕ) (out₀ : List A) where
   abbrev values : List A
   values = map (digit_value z pairs) (split base each (drop place words))
@@ -68,18 +61,6 @@ module _ {A : Type 0} (base each : ℕ) (z : A) (pairs : List A) (words : List �
 
   length-stored : (next : ℕ) → length (stored next) ≡ each
   length-stored next = length-map (digits base each (get_or words next 0)) (digit_value z pairs) ∙ length_digits base each (get_or words next 0)
-
-  pub filled_none : Cut z pairs base each → Filled 0 place out₀
-  filled_none c =
-      let none : place - place ≡ 0 = omega arith in
-      record {
-        cut = c;
-        whole = sym (ap (λ (k : ℕ). k * each) none ∙ zero-mul each);
-        after = omega arith;
-        fits = omega arith;
-        sized = refl;
-        holds = refl;
-      }
 
   -- where a value is still wanted there is a word
   pub word-there : {at next : ℕ} {out : List A} → length out₀ ≤ (length words - place) * each → at < length out₀ → Filled at next out → next < length words

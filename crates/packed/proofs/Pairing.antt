@@ -105,8 +105,41 @@ module _ {A : Type 0} (z : A) where
 
 -- the same of a table that is equal to it: its pairs, and its digits alone, where they are what a function gives
 module _ {A : Type 0} (z : A) (values : List A) (positive : 0 < length values) {pairs : List A} (made : pairs ≡ pairs_of values) where
-  pub made-paired : Paired (length values) z pairs
+  made-paired : Paired (length values) z pairs
   made-paired = rw made (paired z values positive)
 
-  pub made_agrees : (g : ℕ → A) → ((d : ℕ) → d < length values → get_or values d z ≡ g d) → (d : ℕ) → d < length values → digit_value z pairs d ≡ g d
+  made_agrees : (g : ℕ → A) → ((d : ℕ) → d < length values → get_or values d z ≡ g d) → (d : ℕ) → d < length values → digit_value z pairs d ≡ g d
   made_agrees g agree d h = ap (λ (ps : List A). digit_value z ps d) made ∙ digit_value_lem z values positive d h ∙ agree d h
+
+-- A claim about the digits below two, three and four, one by one.
+below_two : (P : ℕ → Type 0) → P 0 → P 1 → (d : ℕ) → d < 2 → P d
+below_two P p₀ p₁ zero h = p₀
+below_two P p₀ p₁ (suc zero) h = p₁
+below_two P p₀ p₁ (suc (suc d)) h = absurd (omega arith)
+
+below-three : (P : ℕ → Type 0) → P 0 → P 1 → P 2 → (d : ℕ) → d < 3 → P d
+below-three P p₀ p₁ p₂ zero h = p₀
+below-three P p₀ p₁ p₂ (suc d) h = below_two (λ k. P (suc k)) p₁ p₂ d (omega arith)
+
+below_four : (P : ℕ → Type 0) → P 0 → P 1 → P 2 → P 3 → (d : ℕ) → d < 4 → P d
+below_four P p₀ p₁ p₂ p₃ zero h = p₀
+below_four P p₀ p₁ p₂ p₃ (suc d) h = below-three (λ k. P (suc k)) p₁ p₂ p₃ d (omega arith)
+
+-- Tables of the pairs of two, three and four values: their digits are what a function gives that has these values.
+module _ {A : Type 0} (z : A) {a b : A} {pairs : List A} (made : pairs ≡ pairs_of (a ∷ b ∷ [])) where
+  pub two_agree : (g : ℕ → A) → a ≡ g 0 → b ≡ g 1 → (d : ℕ) → d < 2 → digit_value z pairs d ≡ g d
+  two_agree g p₀ p₁ = made_agrees z (a ∷ b ∷ []) (omega arith) made g (below_two (λ d. get_or (a ∷ b ∷ []) d z ≡ g d) p₀ p₁)
+
+module _ {A : Type 0} (z : A) {a b c : A} {pairs : List A} (made : pairs ≡ pairs_of (a ∷ b ∷ c ∷ [])) where
+  pub three_paired : Paired 3 z pairs
+  three_paired = made-paired z (a ∷ b ∷ c ∷ []) (omega arith) made
+
+  pub three_agree : (g : ℕ → A) → a ≡ g 0 → b ≡ g 1 → c ≡ g 2 → (d : ℕ) → d < 3 → digit_value z pairs d ≡ g d
+  three_agree g p₀ p₁ p₂ = made_agrees z (a ∷ b ∷ c ∷ []) (omega arith) made g (below-three (λ d. get_or (a ∷ b ∷ c ∷ []) d z ≡ g d) p₀ p₁ p₂)
+
+module _ {A : Type 0} (z : A) {a b c d : A} {pairs : List A} (made : pairs ≡ pairs_of (a ∷ b ∷ c ∷ d ∷ [])) where
+  pub four_paired : Paired 4 z pairs
+  four_paired = made-paired z (a ∷ b ∷ c ∷ d ∷ []) (omega arith) made
+
+  pub four_agree : (g : ℕ → A) → a ≡ g 0 → b ≡ g 1 → c ≡ g 2 → d ≡ g 3 → (k : ℕ) → k < 4 → digit_value z pairs k ≡ g k
+  four_agree g p₀ p₁ p₂ p₃ = made_agrees z (a ∷ b ∷ c ∷ d ∷ []) (omega arith) made g (below_four (λ k. get_or (a ∷ b ∷ c ∷ d ∷ []) k z ≡ g k) p₀ p₁ p₂ p₃)

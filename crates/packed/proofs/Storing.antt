@@ -1,12 +1,12 @@
 -- Storing the digits of a number, one or two at a time: after k the output has the values of its k lowest digits from a place on.
 use mathlib.Core.Path.{◌≡◌, refl, sym, ap, ap₂, ◌∙◌}
 use mathlib.Core.List.{List, ◌∷◌, map}
-use Prim.Native.Nat.{ℕ, suc, ◌+◌, ◌-◌, ◌*◌, ◌/◌, ◌%◌, ◌^◌, ◌<◌, ◌≤◌}
-use native.Mathlib.Nat.{sub-zero, mod-lt, mod-eq_of_lt, mul-pos, mul-le-mul, div-div-eq-div-mul, le_antisymm}
+use Prim.Native.Nat.{ℕ, suc, ◌+◌, ◌-◌, ◌*◌, ◌/◌, ◌%◌, ◌<◌, ◌≤◌}
+use native.Mathlib.Nat.{sub-zero, mod-lt, mod-eq_of_lt, mul-pos, div-div-eq-div-mul}
 use native.Mathlib.Numerals.{add-one}
 use native.Mathlib.Omega.{arith}
 use lib.ListN.{length, get_or, take, drop, set, length-map, get_or-map}
-use lib.Seq.{drop-cons, take-set-le, paste, paste-zero, paste-suc, length-paste}
+use lib.Seq.{drop-cons, take-set-le, paste, paste-zero, paste-suc}
 use Rattle.distr.specs.Packed.{digits}
 use Rattle.distr.proofs.Digits.{length_digits}
 use Rattle.packed.specs.declared.trits.Places.{Places}
@@ -51,57 +51,39 @@ module _ {A : Type 0} (base each : ℕ) (value : ℕ → A) (out₀ : List A) (a
         left = rw (add-one k) next.1;
       }
 
-  pub stored-length : {k x : ℕ} {out : List A} → k ≤ each → at + k ≤ length out₀ → Stored k out x → length out ≡ length out₀
-  stored-length {k} h l s = ap length s.holds ∙ length-paste out₀ at (map value (digits base each w)) k l (rw length-values h)
-
--- base² is a divisor that a word holds
-pub square_fits : {base : ℕ} → base < 65536 → base * base < 2 ^ 32
-square_fits {base} h =
-    let most : base ≤ 65535 = omega arith in
-    omega (arith, mul-le-mul most most)
-
 -- Two digits more by a table of pairs: one digit of base².
 module _ {A : Type 0} (base each : ℕ) (z : A) (pairs : List A) (out₀ : List A) (at w : ℕ) where
-  -- what is known after k digits; the digits are looked up in the table of pairs, and the output has room for them
-  pub record Pairwise (k : ℕ) (out : List A) (x : ℕ) : Type 0 where
-    pub within : k ≤ each
-    pub even : k % 2 ≡ 0
+  -- what is known after so many pairs; the digits are looked up in the table of pairs, and the output has room for them
+  pub record Pairwise (turn : ℕ) (out : List A) (x : ℕ) : Type 0 where
+    pub within : 2 * turn ≤ each
     pub room : at + each ≤ length out₀
     pub paired : Paired base z pairs
-    pub stored : Stored base each (digit_value z pairs) out₀ at w k out x
+    pub stored : Stored base each (digit_value z pairs) out₀ at w (2 * turn) out x
 
   pub pairwise_none : at + each ≤ length out₀ → Paired base z pairs → Pairwise 0 out₀ w
   pairwise_none r p = record {
     within = omega arith;
-    even = refl;
     room = r;
     paired = p;
     stored = stored_none base each (digit_value z pairs) out₀ at w;
   }
 
-  pub pairwise_length : {k x : ℕ} {out : List A} → Pairwise k out x → length out ≡ length out₀
-  pairwise_length s =
-      let r = s.room in
-      let k = s.within in
-      stored-length base each (digit_value z pairs) out₀ at w k (omega arith) s.stored
-
-  pub pairwise_more : {k i x : ℕ} {out out' : List A} → i ≡ at + k → k + 2 ≤ each → Pairwise k out x → out' ≡ pair_set z pairs out i (x % (base * base) * 2)
-      → Pairwise (k + 2) out' (x / (base * base))
-  pairwise_more {k} {i} {x} {out} f h s o =
+  pub pairwise_more : {turn i x : ℕ} {out out' : List A} → i ≡ at + 2 * turn → 2 * turn + 2 ≤ each → Pairwise turn out x
+      → out' ≡ pair_set z pairs out i (x % (base * base) * 2) → Pairwise (turn + 1) out' (x / (base * base))
+  pairwise_more {turn} {i} {x} {out} f h s o =
+      let k : ℕ = 2 * turn in
       let value : ℕ → A = digit_value z pairs in
       let q : ℕ = x % (base * base) in
       let p = s.paired in
       let b = s.paired.positive in
       let r = s.room in
-      let e = s.even in
       let below : q < base * base = mod-lt x (mul-pos b b) in
       let first : value (x % base) ≡ get_or pairs (q * 2) z = sym (p.low q below ∙ ap value (low_digit base b x)) in
       let second : value (x / base % base) ≡ get_or pairs (q * 2 + 1) z = sym (p.high q below ∙ ap value (high_digit base b x)) in
       let after : at + (k + 1) ≡ i + 1 = omega arith in
-      let both : k + 1 + 1 ≡ k + 2 = omega arith in
+      let both : k + 1 + 1 ≡ 2 * (turn + 1) = omega arith in
       record {
-        within = h;
-        even = omega arith;
+        within = omega arith;
         room = r;
         paired = p;
         stored =
@@ -109,13 +91,10 @@ module _ {A : Type 0} (base each : ℕ) (z : A) (pairs : List A) (out₀ : List 
             (stored_more base each value out₀ at w (omega arith) (omega arith) (stored_more base each value out₀ at w (omega arith) (omega arith) s.stored));
       }
 
-  pub pairwise_done : {k x : ℕ} {out : List A} → each ≤ k → Pairwise k out x → out ≡ paste out₀ at (map (digit_value z pairs) (digits base each w)) each
-  pairwise_done {k} h s = rw (le_antisymm s.within h) at s.stored.holds
-
   -- one digit more, the last one, which is what is left
-  pub pairwise_last : {k i x : ℕ} {out : List A} → i ≡ at + k → k + 1 ≡ each → x < base → Pairwise k out x
+  pub pairwise_last : {turn i x : ℕ} {out : List A} → i ≡ at + 2 * turn → 2 * turn + 1 ≡ each → x < base → Pairwise turn out x
       → set out i (digit_value z pairs x) ≡ paste out₀ at (map (digit_value z pairs) (digits base each w)) each
-  pairwise_last {k} {i} {x} {out} f h l s =
+  pairwise_last {turn} {i} {x} {out} f h l s =
       let r = s.room in
       ap₂ (λ (j d : ℕ). set out j (digit_value z pairs d)) f (sym (mod-eq_of_lt l))
       ∙ (stored_more base each (digit_value z pairs) out₀ at w (omega arith) (omega arith) s.stored).holds
@@ -143,25 +122,3 @@ five_trits z pairs out₀ at byte {p} {out₁} {out₂} r d same e f = (
       let four = pairwise_more 3 5 z pairs out₀ at byte refl (omega arith) two (rw (same b) at f) in
       rw (same b, top) (pairwise_last 3 5 z pairs out₀ at byte refl refl (omega arith) four),
 )
-
--- Copying element by element.
-module _ {A : Type 0} (out₀ : List A) (at : ℕ) (part : List A) where
-  -- what is known after k elements
-  pub record Copied (k : ℕ) (out : List A) : Type 0 where
-    pub room : at + k ≤ length out₀
-    pub there : k ≤ length part
-    pub holds : out ≡ paste out₀ at part k
-
-  pub copied_none : at ≤ length out₀ → Copied 0 out₀
-  copied_none h = record { room = omega arith; there = omega arith; holds = paste-zero out₀ at part }
-
-  pub copied_more : (z : A) {k : ℕ} {out : List A} → at + k < length out₀ → k < length part → Copied k out
-      → Copied (k + 1) (set out (at + k) (get_or part k z))
-  copied_more z {k} h l s = record {
-    room = omega arith;
-    there = omega arith;
-    holds = rw (s.holds, add-one k) (paste-suc out₀ at part k z h l);
-  }
-
-  pub copied_length : {k : ℕ} {out : List A} → Copied k out → length out ≡ length out₀
-  copied_length {k} s = ap length s.holds ∙ length-paste out₀ at part k s.room s.there

@@ -1,7 +1,7 @@
 -- Filling an output with trits: what the rule gives from the bytes and words still left is what it gives from the start, and the bytes gone are
 -- those it looked at.
 use mathlib.Core.Path.{◌≡◌, refl, sym, ap, ap₂, ◌∙◌}
-use mathlib.Core.Bool.{Bool, true, false, true≢false}
+use mathlib.Core.Bool.{Bool, true, false, cond}
 use mathlib.Core.List.{List, [], ◌∷◌, ◌++◌, map, append-nil, append_assoc}
 use Prim.Native.Nat.{ℕ, zero, suc, ◌+◌, ◌*◌, ◌-◌, ◌/◌, ◌%◌, ◌^◌, ◌<◌, ◌≤◌, min}
 use native.Mathlib.Nat.{sub-zero, zero-sub, le_of_eq}
@@ -10,8 +10,8 @@ use native.Mathlib.Omega.{arith}
 use borrow.Author.Tests.{lt-ltb, le-ltb, ltb-true}
 use lib.Dec.{ltb}
 use mir.Val.{bool_byte}
-use lib.ListN.{length, get_or, take, drop, replicate, length-map, length-append, drop_of_length-le}
-use lib.Seq.{paste, take-paste, take-nil, take-append-add, take-append-le, take_all, drop-cons, length-paste}
+use lib.ListN.{length, get_or, take, drop, length-map, length-append, drop_of_length-le}
+use lib.Seq.{paste, take-paste, take-nil, take-append-add, take_all, drop-cons, length-paste}
 use Rattle.distr.specs.Words.{Read, got, short, map_read}
 use Rattle.distr.specs.Packed.{digits, split}
 use Rattle.distr.specs.UniformTernary.{accepted_bytes, bytes, rejected_bytes}
@@ -20,7 +20,7 @@ use Rattle.distr.proofs.Digits.{length_digits, length-split}
 use Rattle.distr.proofs.Writing.{map_append, map-take}
 use Rattle.packed.specs.declared.bytes.Ended.{Ended}
 use Rattle.packed.specs.Pairs.{digit_value, digit_values}
-use Rattle.packed.specs.Trits.{bytes_wanted, bytes_looked, trits_from, TritTables, BytesStored, Looked}
+use Rattle.packed.specs.Trits.{bytes_wanted, bytes_looked, trits_from, BytesStored, ByteFitted, Looked}
 use Rattle.packed.proofs.Packing.{from_front}
 use Rattle.packed.proofs.Rejecting.{accepted_append, looked_from, looked_words, looked_next, looked_none, looked_front}
 
@@ -28,6 +28,12 @@ read_id : {A : Type 0} (r : Read A) → map_read (λ a. a) r ≡ r
 unfolding map_read
 read_id (got a rest) = refl
 read_id short = refl
+
+-- the first of two lists, one after the other
+take_append : {A : Type 0} (n : ℕ) (xs ys : List A) → take n (xs ++ ys) ≡ take n xs ++ take (n - length xs) ys
+take_append zero xs ys = ap (λ (k : ℕ). take k ys) (sym (zero-sub (length xs)))
+take_append (suc n) [] ys = ap (λ (k : ℕ). take k ys) (sym (sub-zero (suc n)))
+take_append (suc n) (x ∷ xs) ys = let less : suc n - suc (length xs) ≡ n - length xs = omega arith in rw less (ap (λ (l : List _). x ∷ l) (take_append n xs ys))
 
 -- the digits of two lists, one after the other
 split_append : (xs ys : List ℕ) → split 3 5 (xs ++ ys) ≡ split 3 5 xs ++ split 3 5 ys
@@ -88,11 +94,6 @@ digits_more (suc left) x h =
     let one_less : left ≡ suc left - 1 = omega arith in
     ap (λ (k : ℕ). x % 256 ∷ digits 256 k (x / 256)) one_less
 
--- a byte is accepted once or not at all
-pub once : (t : Bool) → bool_byte t ≤ 1
-once true = omega arith
-once false = omega arith
-
 -- Storing bytes: one, and one before others.
 module _ {A : Type 0} (z : A) (pairs : List A) where
   byte_stored-by : (byte : ℕ) (t : Bool) → ltb byte 243 ≡ t → {out out' : List A} {at at' : ℕ} → at + 5 ≤ length out → at' ≡ at + 5 * bool_byte t
@@ -148,7 +149,55 @@ module _ {A : Type 0} (z : A) (pairs : List A) where
             ∙ ap (digit_values z pairs) (sym (split_append front back) ∙ ap (split 3 5) (sym both)));
       }
 
-module _ {A : Type 0} (z : A) (pairs : List A) (groups words : List ℕ) (out₀ : List A) (from place : ℕ) where
+  -- where not all of a byte's values may have room: all of them, those that have, or none
+  one_accepted : (byte : ℕ) → length (accepted_bytes (byte ∷ [])) ≤ 1
+  unfolding accepted_bytes
+  one_accepted byte = go (ltb byte 243)
+    where
+      go : (t : Bool) → length (cond t (byte ∷ []) []) ≤ 1
+      go true = omega arith
+      go false = omega arith
+
+  pub fitted_whole : {byte at at' : ℕ} {out out' : List A} → 5 ≤ length out - at → BytesStored z pairs out at (byte ∷ []) out' at'
+      → ByteFitted z pairs out at byte out' at'
+  fitted_whole {byte} {at} {at'} {out} {out'} h s =
+      let D : List ℕ = split 3 5 (accepted_bytes (byte ∷ [])) in
+      let one = one_accepted byte in
+      let fits : length D ≤ length out - at = omega (arith, length-split 3 5 (accepted_bytes (byte ∷ []))) in
+      record {
+        moved = omega (arith, s.moved);
+        holds = s.holds ∙ ap (λ (ds : List ℕ). take at out ++ digit_values z pairs ds) (sym (take_all (length out - at) D fits));
+      }
+
+  pub fitted_front : (room : List A) {byte at : ℕ} {out out' part : List A} → at ≤ length out → length out - at < 5 → byte < 243
+      → (byte < 243 → part ≡ paste room 0 (digit_values z pairs (digits 3 5 byte)) 5) → out' ≡ paste out at part (length out - at)
+      → ByteFitted z pairs out at byte out' (length out')
+  unfolding accepted_bytes split
+  fitted_front room {byte} {at} {out} {out'} h less m p o =
+      let D : List ℕ = digits 3 5 byte in
+      let vs : List A = digit_values z pairs D in
+      let count : ℕ = length out - at in
+      let five : length vs ≡ 5 = length-map D (digit_value z pairs) ∙ length_digits 3 5 byte in
+      let copied : out' ≡ paste out at vs count = from_front room vs out at 5 count (omega arith) (le_of_eq (sym five)) (p m) o in
+      let sized : length out' ≡ length out = ap length copied ∙ length-paste out at vs count (omega arith) (omega arith) in
+      let end : length out' ≡ at + count = omega arith in
+      record {
+        moved = rw (lt-ltb byte 243 m) (omega arith);
+        holds =
+            rw (lt-ltb byte 243 m, append-nil D)
+            (ap₂ take end copied
+            ∙ take-paste out at vs count h (omega arith)
+            ∙ ap (λ (l : List A). take at out ++ l) (sym (map-take (digit_value z pairs) count D)));
+      }
+
+  pub fitted_none : {byte at : ℕ} (out : List A) → at ≤ length out → 243 ≤ byte → ByteFitted z pairs out at byte out at
+  unfolding accepted_bytes split
+  fitted_none {byte} {at} out h m = record {
+    moved = rw (le-ltb byte 243 m) (omega arith);
+    holds = rw (le-ltb byte 243 m, take-nil (length out - at)) (sym (append-nil (take at out)));
+  }
+
+module _ {A : Type 0} (z : A) (pairs : List A) (words : List ℕ) (out₀ : List A) (from place : ℕ) where
   -- what the rule gives
   abbrev Whole : Read (List A)
   Whole = trits_from z pairs out₀ from (drop place words)
@@ -170,18 +219,16 @@ module _ {A : Type 0} (z : A) (pairs : List A) (groups words : List ℕ) (out₀
     pub sized : length out ≡ length out₀
     pub within : at ≤ length out₀
     pub found : next ≤ length words
-    pub tables : TritTables z pairs groups
     pub same : Left out at (digits 256 left rest) next ≡ Whole
     pub few : left ≤ 4
     pub looked : bytes_looked (drop place words) (length out₀ - from) + left + 4 * place ≡ LeftLooked at (digits 256 left rest) next
 
-  pub trit_none : from ≤ length out₀ → place ≤ length words → TritTables z pairs groups → TritLoop out₀ from place 0 0
+  pub trit_none : from ≤ length out₀ → place ≤ length words → TritLoop out₀ from place 0 0
   unfolding digits
-  trit_none f h p = record {
+  trit_none f h = record {
     sized = refl;
     within = f;
     found = h;
-    tables = p;
     same = ap (map_read (finished from out₀)) (from_words (drop place words) (bytes_wanted (length out₀ - from)));
     few = omega arith;
     looked = omega (arith, looked_words (drop place words) (bytes_wanted (length out₀ - from)));
@@ -212,7 +259,6 @@ module _ {A : Type 0} (z : A) (pairs : List A) (groups words : List ℕ) (out₀
         sized = s.sized;
         within = s.within;
         found = omega arith;
-        tables = s.tables;
         same = ap (map_read (finished at out)) (next_word bytes_from from_next rest h none l) ∙ s.same;
         few = omega arith;
         looked = omega (arith, s.looked, next_word looked_from looked_next rest h none l);
@@ -272,7 +318,6 @@ module _ {A : Type 0} (z : A) (pairs : List A) (groups words : List ℕ) (out₀
         sized = e;
         within = w;
         found = s.found;
-        tables = s.tables;
         same = step ∙ ap (λ (ds : List ℕ). Left out at ds next) (sym more) ∙ s.same;
         few = omega (arith, s.few);
         looked =
@@ -284,13 +329,23 @@ module _ {A : Type 0} (z : A) (pairs : List A) (groups words : List ℕ) (out₀
             );
       }
 
-  -- its digits are stored, or it is skipped
-  pub trit_byte : {out out' : List A} {at at' next rest left : ℕ} → at + 5 ≤ length out₀ → (left ≡ 0 → ⊥) → length out' ≡ length out
-      → TritLoop out at next rest left → BytesStored z pairs out at (rest % 256 ∷ []) out' at' → TritLoop out' at' next (rest / 256) (left - 1)
-  trit_byte {next = next} {rest = rest} {left = left} l k e s b =
-      let w = b.within in
-      taken (omega arith) k (e ∙ s.sized) (omega arith) (wanted-stored (rest % 256 ∷ []) l b)
-      (left_stored next (rest % 256 ∷ []) (digits 256 (left - 1) (rest / 256)) l b) s
+  -- of its digits as many are stored as there is room for, or it is skipped
+  pub trit_byte : {out out' : List A} {at at' next rest left : ℕ} → at < length out₀ → (left ≡ 0 → ⊥) → length out' ≡ length out
+      → TritLoop out at next rest left → ByteFitted z pairs out at (rest % 256) out' at' → TritLoop out' at' next (rest / 256) (left - 1)
+  trit_byte {out} {out'} {at} {at'} {next} {rest} {left} h k e s b =
+      let accepted : List ℕ = accepted_bytes (rest % 256 ∷ []) in
+      let D : List ℕ = split 3 5 accepted in
+      let r : ℕ = length out₀ - at in
+      let one = one_accepted z pairs (rest % 256) in
+      let m = b.moved in
+      let n = s.sized in
+      let long : length D ≡ length accepted * 5 = length-split 3 5 accepted in
+      let less : length out₀ - at' ≡ r - length D = omega arith in
+      let wanted : bytes_wanted r ≡ length accepted + bytes_wanted (length out₀ - at') = omega arith in
+      taken h k (e ∙ n) (omega arith) wanted
+      (left_less out out' at at' next (rest % 256 ∷ []) (digits 256 (left - 1) (rest / 256)) (take r D) wanted
+      (λ ds. rw less (take_append r D ds)) (rw n at b.holds))
+      s
 
   -- a whole word's digits are stored
   pub trit_whole : {out out' : List A} {at at' next : ℕ} → at + 20 ≤ length out₀ → next < length words → length out' ≡ length out
@@ -305,7 +360,6 @@ module _ {A : Type 0} (z : A) (pairs : List A) (groups words : List ℕ) (out₀
         sized = e ∙ s.sized;
         within = omega arith;
         found = omega arith;
-        tables = s.tables;
         same =
             left_stored (next + 1) (digits 256 4 w) [] (omega arith) b
             ∙ ap (λ (ds : List ℕ). Left out at ds (next + 1)) (append-nil (digits 256 4 w))
@@ -319,44 +373,6 @@ module _ {A : Type 0} (z : A) (pairs : List A) (groups words : List ℕ) (out₀
               looked_less at at' (next + 1) (digits 256 4 w) [] (wanted-stored (digits 256 4 w) (omega arith) b) (omega arith),
             );
       }
-
-  -- the last digits, as many as there is room for, stored aside over eight zeros and copied
-  pub trit_last : {out out' part : List A} {at next rest left : ℕ} → at < length out₀ → length out₀ < at + 5 → (left ≡ 0 → ⊥) → rest % 256 < 243
-      → TritLoop out at next rest left → (rest % 256 < 243 → part ≡ paste (replicate 8 z) 0 (digit_values z pairs (digits 3 5 (rest % 256))) 5) → out' ≡ paste out at part (length out - at)
-      → TritLoop out' (length out₀) next (rest / 256) (left - 1)
-  unfolding accepted_bytes split
-  trit_last {out} {out'} {at = at} {next = next} {rest = rest} {left = left} l l' k m s p o =
-      let b : ℕ = rest % 256 in
-      let D : List ℕ = digits 3 5 b in
-      let vs : List A = digit_values z pairs D in
-      let count : ℕ = length out₀ - at in
-      let sized = s.sized in
-      let five : length D ≡ 5 = length_digits 3 5 b in
-      let fives : length vs ≡ 5 = length-map D (digit_value z pairs) ∙ five in
-      let fits : count ≤ length D = omega arith in
-      let end : at + count ≡ length out₀ = omega arith in
-      let none : length out₀ - length out₀ ≡ 0 = omega arith in
-      let copied : out' ≡ paste out at vs count = from_front (replicate 8 z) vs out at 5 count (omega arith) (le_of_eq (sym fives)) (p m) (rw sized at o) in
-      let wanted : bytes_wanted (length out₀ - at) ≡ length (accepted_bytes (b ∷ [])) + bytes_wanted (length out₀ - length out₀) =
-      rw (lt-ltb b 243 m) (omega arith) in
-      taken l k (ap length copied ∙ length-paste out at vs count (omega arith) (omega arith) ∙ sized) (omega arith) wanted
-      (left_less out out' at (length out₀) next (b ∷ []) (digits 256 (left - 1) (rest / 256)) (take count D)
-      wanted
-      (λ ds. rw (lt-ltb b 243 m, append-nil D) (take-append-le count D ds fits ∙ sym (append-nil (take count D)) ∙ ap (λ (j : ℕ). take count D ++ take j ds) (sym none)))
-      (ap₂ take (sym end) copied ∙ take-paste out at vs count (omega arith) (omega arith) ∙ ap (λ (l : List A). take at out ++ l) (sym (map-take (digit_value z pairs) count D))))
-      s
-
-  -- a byte is skipped
-  pub trit_skip : {out : List A} {at next rest left : ℕ} → at < length out₀ → (left ≡ 0 → ⊥) → 243 ≤ rest % 256 → TritLoop out at next rest left
-      → TritLoop out at next (rest / 256) (left - 1)
-  unfolding accepted_bytes split
-  trit_skip {out} {at} {next} {rest} {left} h k l s =
-      let wanted : bytes_wanted (length out₀ - at) ≡ length (accepted_bytes (rest % 256 ∷ [])) + bytes_wanted (length out₀ - at) =
-      rw (le-ltb (rest % 256) 243 l) (omega arith) in
-      taken h k s.sized s.within wanted
-      (left_less out out at at next (rest % 256 ∷ []) (digits 256 (left - 1) (rest / 256)) []
-      wanted (λ ds. rw (le-ltb (rest % 256) 243 l)) (sym (append-nil (take at out))))
-      s
 
   -- no byte is left: the words alone
   trit_paused : {out : List A} {at next : ℕ} → TritLoop out at next 0 0 → trits_from z pairs out at (drop next words) ≡ Whole
@@ -389,47 +405,31 @@ module _ {A : Type 0} (z : A) (pairs : List A) (groups words : List ℕ) (out₀
       ∙ s.same
 
   pub looked_done : {out : List A} {at next rest left : ℕ} → length out₀ ≤ at → TritLoop out at next rest left
-      → Looked (record { found = true; place = next; left = left }) words place (length out₀ - from)
+      → Looked (record { place = next; left = left }) words place (length out₀ - from)
   looked_done {out} {at} {next} {rest} {left} h s =
       let none : bytes_wanted (length out₀ - at) ≡ 0 = omega arith in
       let over : LeftLooked at (digits 256 left rest) next ≡ 4 * next =
       rw none (omega (arith, looked_none (digits 256 left rest) (drop next words))) in
-      record { few = s.few; all = λ f. omega (arith, s.looked, over) }
-
--- from the start of the output the rule is the plain one
-pub trits_all : {A : Type 0} (z : A) (pairs out : List A) (ws : List ℕ)
-    → trits_from z pairs out 0 ws ≡ map_read (λ ds. digit_values z pairs (take (length out) (split 3 5 ds))) (bytes ws ((length out + 4) / 5))
-trits_all z pairs out ws =
-    ap (λ (k : ℕ). map_read (λ ds. digit_values z pairs (take k (split 3 5 ds))) (bytes ws (bytes_wanted k))) (sub-zero (length out))
+      record { few = s.few; all = omega (arith, s.looked, over) }
 
 -- ---- the bytes looked at, where whole words were stored from the start and the others read from there
 module _ (words : List ℕ) (place : ℕ) where
-  looked_paused : {A : Type 0} (z : A) (pairs : List A) (groups : List ℕ) (out₀ : List A) {out : List A} {at next : ℕ} → TritLoop z pairs groups words out₀ 0 place out at next 0 0
+  looked_paused : {A : Type 0} (z : A) (pairs : List A) (out₀ : List A) {out : List A} {at next : ℕ} → TritLoop z pairs words out₀ 0 place out at next 0 0
       → bytes_looked (drop place words) (length out₀) + 4 * place ≡ bytes_looked (drop next words) (length out - at) + 4 * next
   unfolding digits
-  looked_paused z pairs groups out₀ {at = at} {next = next} s =
+  looked_paused z pairs out₀ {at = at} {next = next} s =
       let whole = rw (sub-zero (length out₀)) at s.looked in
       rw s.sized (omega (arith, whole, looked_words (drop next words) (bytes_wanted (length out₀ - at))))
 
   -- all that is said where the storing of whole words ends
-  pub words-stored : {A : Type 0} (z : A) (pairs : List A) (groups : List ℕ) (out₀ : List A) {out : List A} {at next : ℕ} → TritLoop z pairs groups words out₀ 0 place out at next 0 0
+  pub words-stored : {A : Type 0} (z : A) (pairs : List A) (out₀ : List A) {out : List A} {at next : ℕ} → TritLoop z pairs words out₀ 0 place out at next 0 0
       → ((at ≤ length out) × (next ≤ length words) × (trits_from z pairs out at (drop next words) ≡ trits_from z pairs out₀ 0 (drop place words)))
       × (bytes_looked (drop place words) (length out₀) + 4 * place ≡ bytes_looked (drop next words) (length out - at) + 4 * next)
-  words-stored z pairs groups out₀ s =
-      ((omega (arith, s.within, s.sized), s.found, trit_paused z pairs groups words out₀ 0 place s), looked_paused z pairs groups out₀ s)
-
-  pub looked_short : (k at : ℕ) → Looked (record { found = false; place = at; left = 0 }) words place k
-  looked_short k at = record { few = omega arith; all = λ f. absurd (true≢false (sym f)) }
-
-  pub looked_all : (n next k : ℕ) {e : Ended} → bytes_looked (drop place words) n + 4 * place ≡ bytes_looked (drop next words) k + 4 * next
-      → Looked e words next k → Looked e words place n
-  looked_all n next k stored rest = record { few = rest.few; all = λ f. omega (arith, stored, rest.all f) }
+  words-stored z pairs out₀ s =
+      ((omega (arith, s.within, s.sized), s.found, trit_paused z pairs words out₀ 0 place s), looked_paused z pairs out₀ s)
 
   -- so the bytes of the words taken are those left, those accepted and those rejected
-  module _ (n : ℕ) {e : Ended} (l : Looked e words place n) (found : e.found ≡ true) where
-    pub taken_forward : place ≤ e.place
-    taken_forward = omega (arith, l.all found)
-
-    pub taken-rejected : {k : ℕ} → k ≡ min (4 * (e.place - place) - (e.left + bytes_wanted n)) (2 ^ 64 - 1)
+  module _ (n : ℕ) {e : Ended} (l : Looked e words place n) where
+    pub taken_rejected : {k : ℕ} → k ≡ min (4 * (e.place - place) - (e.left + bytes_wanted n)) (2 ^ 64 - 1)
         → k ≡ min (rejected_bytes (drop place words) (bytes_wanted n)) (2 ^ 64 - 1)
-    taken-rejected r = omega (arith, l.all found)
+    taken_rejected r = omega (arith, l.all)

@@ -14,6 +14,7 @@ use Rattle.packed.specs.declared.trits.Places.{Places}
 use Rattle.packed.specs.declared.trits.TritsBy.{TritsBy}
 use Rattle.packed.specs.declared.trits.TritsBy.TheVariants.{Table, Division}
 use Rattle.packed.specs.TritTable.{count_up, trit_table, kept, kept_table, TableRule, group_places, digits_at, divided_places, places_by}
+use Rattle.packed.specs.Tables.{TritTables}
 
 -- the number at k
 count_at : (from count k : ℕ) → k < count → get_or (count_up from count) k 0 ≡ from + k
@@ -94,10 +95,13 @@ index_below byte = go (ltb byte 243) refl
     go false e = omega arith
 
 -- So both ways lead to the same places,
-pub same-places : (by : TritsBy) {table : List ℕ} → table ≡ kept_table → (byte : ℕ) → byte < 243 → places_by by table byte ≡ divided_places byte
+same-places : (by : TritsBy) {table : List ℕ} → table ≡ kept_table → (byte : ℕ) → byte < 243 → places_by by table byte ≡ divided_places byte
 unfolding places_by
 same-places Table e byte h = rw (e, lt-ltb byte 243 h) (ap group_places (kept_at byte h) ∙ kept-places byte h)
 same-places Division e byte h = refl
+
+pub found_places : {p : Places} (by : TritsBy) {table : List ℕ} {byte : ℕ} → table ≡ kept_table → p ≡ places_by by table byte → byte < 243 → p ≡ divided_places byte
+found_places by e found h = found ∙ same-places by e _ h
 
 -- and those of a byte that is skipped are in a table of pairs too.
 pub record Within (p : Places) : Type 0 where
@@ -120,3 +124,16 @@ pub places-within : (by : TritsBy) {table : List ℕ} → table ≡ kept_table �
 unfolding places_by
 places-within Table e byte h = rw e (table-within byte)
 places-within Division e byte h = divided_within byte h
+
+-- So they are in a table of the pairs of three values.
+pub record InPairs {A : Type 0} (pairs : List A) (p : Places) : Type 0 where
+  pub first : p.first + 2 ≤ length pairs
+  pub second : p.second + 2 ≤ length pairs
+  pub last : p.last < length pairs
+
+pub in_pairs : {A : Type 0} {z : A} {pairs : List A} {groups : List ℕ} {byte : ℕ} {p : Places} (by : TritsBy) → TritTables z pairs groups → byte < 256
+    → p ≡ places_by by groups byte → InPairs pairs p
+in_pairs by t h e =
+    let size = t.paired.sized in
+    let within = places-within by t.kept _ h in
+    rw e (record { first = omega (arith, within.first); second = omega (arith, within.second); last = omega (arith, within.last) })

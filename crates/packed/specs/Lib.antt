@@ -4,4 +4,5 @@ pub mod Pairs
 pub mod Cutting
 pub mod Tabled
 pub mod TritTable
+pub mod Tables
 pub mod Trits

@@ -5,17 +5,15 @@ ghost use Rattle.std.specs.Prelude.{◌≡◌, ◌-◌, ◌*◌, ◌^◌, min};
 pub const ACCEPTED: u32 = 243;
 
 // How far whole words were stored: so many values, and the place of the next word.
-#[derive(Clone, Copy)]
+#[derive(Clone, Copy, Debug, PartialEq, Eq)]
 pub struct WordsStored {
     pub at: usize,
     pub place: usize,
 }
 
-// Where a reading of bytes stopped: the place after the last word read, and how many bytes of that word were not looked at; unless a word
-// was missing.
-#[derive(Clone, Copy)]
+// Where a reading of bytes stopped: the place after the last word read, and how many bytes of that word were not looked at.
+#[derive(Clone, Copy, Debug, PartialEq, Eq)]
 pub struct Ended {
-    pub found: bool,
     pub place: usize,
     pub left: usize,
 }

@@ -276,7 +276,7 @@ pub fn trit_table() -> TritTable
 }
 
 // How the trits of a byte are found.
-#[derive(Clone, Copy)]
+#[derive(Clone, Copy, Debug, PartialEq, Eq)]
 pub enum TritsBy {
     // In the table: the engine's way.
     Table,
@@ -285,7 +285,7 @@ pub enum TritsBy {
 }
 
 // Where the trits of a byte stand in a table of pairs: the first two, the next two, and the last.
-#[derive(Clone, Copy)]
+#[derive(Clone, Copy, Debug, PartialEq, Eq)]
 pub struct Places {
     pub first: usize,
     pub second: usize,
@@ -300,6 +300,7 @@ fn wide(x: u32) -> usize
 }
 
 // The places of a byte's trits. A byte that is skipped has places too, so that nothing branches on it: in the table those of the byte 0.
+#[tactic(auto, using(crate::proofs::TritTable::index_of), unfolding(crate::specs::TritTable::places_by))]
 pub fn places_of(by: TritsBy, table: &TritTable, byte: u8) -> Places
     ensures { result ≡ places_by by table.now byte }
 {

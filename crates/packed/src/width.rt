@@ -1,5 +1,5 @@
 // How a word is cut into digits, lowest first.
-#[derive(Clone, Copy)]
+#[derive(Clone, Copy, Debug, PartialEq, Eq)]
 pub enum Width {
     // 32 bits.
     Bits,

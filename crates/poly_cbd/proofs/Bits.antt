@@ -5,7 +5,7 @@ use mathlib.Core.Logic.{◌⊎◌, ⊎_elim}
 use mathlib.Core.List.{List}
 use Prim.Native.Nat.{ℕ, zero, suc, ◌+◌, ◌-◌, ◌*◌, ◌/◌, ◌%◌, ◌^◌, ◌<◌, ◌≤◌}
 use native.Mathlib.Numerals.{add-one}
-use native.Mathlib.Nat.{add_comm, add_assoc, mul-le-mul, mod-eq_of_lt, mul-suc, mul-le-mul_left, mul_right_comm, add-mul-div_right, mul_assoc, mod-lt}
+use native.Mathlib.Nat.{add_comm, add_assoc, mul-le-mul, mod-eq_of_lt, mul_right_comm, add-mul-div_right, mul_assoc, mod-lt}
 use native.Mathlib.Omega.{arith}
 use borrow.Author.Tests.{ltb-true, ltb-false}
 use lib.Dec.{ltb}
@@ -22,9 +22,6 @@ use Rattle.poly_cbd.specs.Coefficient.{HoldsBits, both_sums}
 -- eta is small, and the bits of 256 coefficients are those of its bytes
 pub small : (eta : ℕ) → (eta ≡ 2) ⊎ (eta ≡ 3) → (2 ≤ eta) × (eta ≤ 3)
 small eta = ⊎_elim (λ e. (omega arith, omega arith)) (λ e. (omega arith, omega arith))
-
-pub bits-within : (eta i : ℕ) → i < 256 → 2 * eta * i + 2 * eta ≤ 512 * eta
-bits-within eta i h = omega (arith, mul-suc (2 * eta) i, mul-le-mul_left (2 * eta) h)
 
 -- ---- bits of two bytes
 

@@ -27,10 +27,8 @@ fn both_sums(bits: u32, eta: u32) -> u32
 {
     let ends = (1 << eta) + 1;
     let mut sums = 0;
-    let mut j = 0;
-    while j < eta {
+    for j in 0..eta {
         sums += (bits >> j) & ends;
-        j += 1;
     }
     sums
 }

@@ -5,27 +5,28 @@ mod coefficient;
 
 ghost use Rattle.std.specs.Prelude.{◌≡◌, length};
 ghost use Rattle.distr.specs.Constants.{cbd_coefficients};
+ghost use Rattle.distr.specs.Refusals.{number_of};
 ghost use Rattle.distr.specs.SamplePolyCbd.{cbd_number, polynomial_of, sample_poly_cbd};
 ghost use Rattle.poly_cbd.specs.Coefficient.{GoodBytes};
 
 use coefficient::coefficient;
-use distr::refusal::{INVALID_CBD_ETA, INVALID_CBD_LENGTH};
+use distr::refusal::Refusal;
 
 // The coefficients of a polynomial, the standard's n.
 const N: usize = 256;
 
 // What refuses a call: 27, then 28. That 64 * eta fits is known once eta is.
 #[tactic(auto, unfolding(distr::specs::SamplePolyCbd::cbd_number, distr::specs::Numbers::first_of))]
-fn cbd_number(eta: u32, byte_length: usize, output_length: usize) -> u32
-    ensures { result ≡ cbd_number eta byte_length output_length }
+fn check_cbd(eta: u32, byte_length: usize, output_length: usize) -> Result<(), Refusal>
+    ensures { number_of result ≡ cbd_number eta byte_length output_length }
 {
     if !((eta == 2) | (eta == 3)) {
-        return INVALID_CBD_ETA;
+        return Err(Refusal::InvalidCbdEta);
     }
     if (byte_length != 64 * eta as usize) | (output_length != N) {
-        return INVALID_CBD_LENGTH;
+        return Err(Refusal::InvalidCbdLength);
     }
-    0
+    Ok(())
 }
 
 // Every coefficient, in the standard's order.
@@ -33,26 +34,21 @@ fn fill(output: &mut [u64], eta: u32, bytes: &[u8])
     requires { GoodBytes eta (length bytes.now) × (length output.old ≡ cbd_coefficients) }
     ensures { output.new ≡ polynomial_of eta bytes.now }
 {
-    let mut i = 0;
-    while i < N {
+    for i in 0..N {
         output[i] = coefficient(bytes, eta, i);
-        i += 1;
     }
 }
 
 // A polynomial of 256 coefficients modulo 3329 from 64 * eta bytes, for eta 2 and 3. A refusal, 27 or 28, writes nothing. Each eta has a loop in
 // which it is a constant.
-pub fn sample_poly_cbd(output: &mut [u64], eta: u32, bytes: &[u8]) -> u32
-    ensures { (result, output.new) ≡ sample_poly_cbd eta bytes.now output.old }
+pub fn sample_poly_cbd(output: &mut [u64], eta: u32, bytes: &[u8]) -> Result<(), Refusal>
+    ensures { (number_of result, output.new) ≡ sample_poly_cbd eta bytes.now output.old }
 {
-    let number = cbd_number(eta, bytes.len(), output.len());
-    if number != 0 {
-        return number;
-    }
+    check_cbd(eta, bytes.len(), output.len())?;
     if eta == 2 {
         fill(output, 2, bytes);
     } else {
         fill(output, 3, bytes);
     }
-    0
+    Ok(())
 }

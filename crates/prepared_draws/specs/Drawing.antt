@@ -1,22 +1,29 @@
 -- Draws by a prepared method: what can refuse one before its tables are judged, and what it draws.
-use Rattle.std.specs.Prelude.{ℕ, ◌-◌, ◌^◌, cond, ◌&&◌, List, [], ◌∷◌, ◌++◌, map, eqb, length, take, ℤ}
+use Rattle.std.specs.Prelude.{ℕ, ◌-◌, ◌^◌, cond, ◌&&◌, List, [], ◌∷◌, ◌++◌, map, eqb, length, take, ℤ, Result, Ok, Err}
+use Rattle.distr.specs.declared.refusal.Refusal.{Refusal}
 use Rattle.distr.specs.Constants.{modulus_zero, never_made}
+use Rattle.distr.specs.Refusals.{number}
 use Rattle.distr.specs.Skipped.{Skipped, nothing}
 use Rattle.distr.specs.Distribution.{Tables}
 use Rattle.distr.specs.Encoding.{encode_with}
 use Rattle.distr.specs.Making.{refuse}
 use Rattle.distr.specs.Numbers.{first_of, past_end, state_numbers, shape_number, too_long, modulus_number, moduli_numbers}
 use Rattle.distr.specs.Draw.{Outcome, judged}
-use Rattle.methods.specs.declared.PreparedMethod.{PreparedMethod}
 use Rattle.methods.specs.declared.SamplingMethod.{SamplingMethod}
 use Rattle.methods.specs.Method.{magnitude_of, length_of}
 use Rattle.methods.specs.Keys.{is_binomial, is_served}
 use Rattle.method_draws.specs.Drawing.{method_draw, method_skips}
 use Rattle.crt.specs.Rows.{last_row, finished}
 
--- The number that goes with a method refuses the draw, or the method draws.
-abbrev pub prepared_draw : {A : Type 0} → PreparedMethod → ℕ → List A → (SamplingMethod → Outcome A) → Outcome A
-prepared_draw prepared place out draw = judged prepared.number place out (draw prepared.method)
+-- What was prepared draws, or the number of its refusal is the draw's, before anything else is judged.
+unfoldable pub prepared_draw : {A : Type 0} → Result SamplingMethod Refusal → ℕ → List A → (SamplingMethod → Outcome A) → Outcome A
+prepared_draw (Ok method) place out draw = draw method
+prepared_draw (Err why) place out draw = record { number = number why; place = place; index = 0; output = out }
+
+-- 02 [1]: what such a draw skips; a refused one skips nothing.
+unfoldable pub prepared_skips : Result SamplingMethod Refusal → (SamplingMethod → Skipped) → Skipped
+prepared_skips (Ok method) skips = skips method
+prepared_skips (Err why) skips = nothing
 
 -- What refuses residues of a modulus: 7 or 8 for the length, 10 for the centered binomial's of 0 (its encoded draw is a CRT draw), then 9.
 abbrev pub residue_numbers : SamplingMethod → ℕ → ℕ → List ℕ

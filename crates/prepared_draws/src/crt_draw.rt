@@ -2,37 +2,38 @@
 ghost use Rattle.std.specs.Prelude.{◌≡◌, length, drop};
 ghost use Rattle.distr.specs.Draw.{outcome};
 ghost use Rattle.distr.specs.Answers.{sums, reported};
+ghost use Rattle.distr.specs.Refusals.{number_of};
 ghost use Rattle.method_draws.specs.Drawing.{method_skips};
 ghost use Rattle.methods.specs.declared.SamplingMethod.{SamplingMethod};
 ghost use Rattle.signed_discrete_gaussian.specs.Lent.{lent};
-ghost use Rattle.prepared_draws.specs.Drawing.{prepared_draw, crt_number, row_draw, crt_by, crt_skips_by};
+ghost use Rattle.prepared_draws.specs.Drawing.{prepared_draw, prepared_skips, crt_number, row_draw, crt_by, crt_skips_by};
 
-use cdt_u64::sample_cdt_to;
-use centered_binomial_u64::draw::sample_binomial_to as sample_binomial;
+use cdt::sample_cdt_to;
+use centered_binomial::draw::sample_binomial_to as sample_binomial;
 use distr::answer::{Answer, refused};
 use distr::limits::CDT_MAX_MAGNITUDE;
-use distr::refusal::NEVER_MADE;
+use distr::refusal::Refusal;
 use methods::key::is_served;
-use methods::{PreparedMethod, SamplingMethod, maximum_magnitude};
-use output_u64::Encoding;
-use ziggurat_u64::sample_ziggurat_to;
+use methods::{SamplingMethod, maximum_magnitude};
+use output::Residues;
+use ziggurat::sample_ziggurat_to;
 
-// The number of a draw into n elements by a method: 21 for one that is not served, 22, 11, 6, then modulus by modulus 10 before 9.
-fn crt_draw_number(
+// Tests a draw into n elements by a method: 21 for one that is not served, 22, 11, 6, then modulus by modulus 10 before 9.
+fn check_crt_draw(
     method: SamplingMethod,
     words: usize,
     place: usize,
     n: usize,
     coefficient_count: usize,
     moduli: &[u64],
-) -> u32
-    ensures { result ≡ crt_number method words place n coefficient_count moduli.now }
+) -> Result<(), Refusal>
+    ensures { number_of result ≡ crt_number method words place n coefficient_count moduli.now }
 {
     if !is_served(method) {
-        return NEVER_MADE;
+        return Err(Refusal::NeverMade);
     }
     let largest = maximum_magnitude(method);
-    crt::crt_number(words, place, n, coefficient_count, moduli, largest)
+    crt::check_crt(words, place, n, coefficient_count, moduli, largest)
 }
 
 // Draws one row of native residues: -m is 2^64 - m, a constant that the loops are compiled with. A method that CRT draws do not serve gives 21.
@@ -51,29 +52,10 @@ fn draw_row(
         words.now place output.old }
     ensures result_value { sums result ≡ reported result.number (method_skips method (lent bounds.now endpoints.now heights.now curve.now) (length output.old) (drop place words.now)) }
 {
-    let native = Encoding {
+    let native = Residues {
         minus_one: 0xffff_ffff_ffff_ffff,
     };
     match method {
-        SamplingMethod::UniformBinary => refused(NEVER_MADE, place),
-        SamplingMethod::Binary(_) => refused(NEVER_MADE, place),
-        SamplingMethod::SparseTernary => refused(NEVER_MADE, place),
-        SamplingMethod::UniformTernary => refused(NEVER_MADE, place),
-        SamplingMethod::Ternary(_) => refused(NEVER_MADE, place),
-        SamplingMethod::FixedHammingWeightBinary { hamming_weight: _ } => {
-            refused(NEVER_MADE, place)
-        }
-        SamplingMethod::BlockBinary {
-            block_size: _,
-            occupancy: _,
-        } => refused(NEVER_MADE, place),
-        SamplingMethod::FixedHammingWeightTernary { hamming_weight: _ } => {
-            refused(NEVER_MADE, place)
-        }
-        SamplingMethod::FixedCompositionTernary {
-            negative_one_weight: _,
-            one_weight: _,
-        } => refused(NEVER_MADE, place),
         SamplingMethod::Gaussian(p) => {
             if p.maximum_magnitude <= CDT_MAX_MAGNITUDE {
                 let largest = p.maximum_magnitude;
@@ -83,7 +65,7 @@ fn draw_row(
             }
         }
         SamplingMethod::CenteredBinomial(p) => sample_binomial(output, native, p, words, place),
-        SamplingMethod::Empty => refused(NEVER_MADE, place),
+        _ => refused(Refusal::NeverMade, place),
     }
 }
 
@@ -91,7 +73,7 @@ fn draw_row(
 // was. An empty output is drawn the same way, which reads nothing: its tables are judged.
 pub fn sample_crt_to(
     output: &mut [u64],
-    prepared: PreparedMethod,
+    prepared: Result<SamplingMethod, Refusal>,
     coefficient_count: usize,
     moduli: &[u64],
     bounds: &[u64],
@@ -104,17 +86,15 @@ pub fn sample_crt_to(
     ensures output_after { outcome result output.new ≡ prepared_draw prepared place output.old (λ (m : SamplingMethod). crt_by m
         (lent bounds.now endpoints.now heights.now curve.now)
         coefficient_count moduli.now words.now place output.old) }
-    ensures result_value { sums result ≡ reported result.number (crt_skips_by prepared.method (lent bounds.now endpoints.now heights.now curve.now) coefficient_count (length output.old) (drop place words.now)) }
+    ensures result_value { sums result ≡ reported result.number (prepared_skips prepared (λ (m : SamplingMethod). crt_skips_by m (lent bounds.now endpoints.now heights.now curve.now) coefficient_count (length output.old) (drop place words.now))) }
 {
-    let refusal = prepared.number;
-    if refusal != 0 {
-        return refused(refusal, place);
-    }
-    let method = prepared.method;
+    let method = match prepared {
+        Ok(method) => method,
+        Err(why) => return refused(why, place),
+    };
     let n = output.len();
-    let number = crt_draw_number(method, words.len(), place, n, coefficient_count, moduli);
-    if number != 0 {
-        return refused(number, place);
+    if let Err(why) = check_crt_draw(method, words.len(), place, n, coefficient_count, moduli) {
+        return refused(why, place);
     }
     let last = crt::last_row(n, coefficient_count);
     let answer = draw_row(

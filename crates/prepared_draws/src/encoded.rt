@@ -1,41 +1,40 @@
 // The draw of residues of one modulus by a prepared method, and what it asks of the length and the modulus.
 ghost use Rattle.std.specs.Prelude.{◌≡◌, length, drop};
 ghost use Rattle.distr.specs.Numbers.{first_of};
+ghost use Rattle.distr.specs.Refusals.{number_of};
 ghost use Rattle.distr.specs.Draw.{outcome};
 ghost use Rattle.distr.specs.Answers.{sums, reported};
 ghost use Rattle.method_draws.specs.Drawing.{method_skips};
 ghost use Rattle.methods.specs.declared.SamplingMethod.{SamplingMethod};
 ghost use Rattle.signed_discrete_gaussian.specs.Lent.{lent};
-ghost use Rattle.prepared_draws.specs.Drawing.{prepared_draw, residue_numbers, encoded_by};
+ghost use Rattle.prepared_draws.specs.Drawing.{prepared_draw, prepared_skips, residue_numbers, encoded_by};
 
 use distr::answer::{Answer, refused};
-use distr::refusal::MODULUS_ZERO;
-use method_draws_u64::sample_to_with;
+use distr::refusal::Refusal;
+use method_draws::sample_to_with;
 use methods::key::is_binomial;
-use methods::{PreparedMethod, SamplingMethod, length_number, maximum_magnitude, modulus_number};
-use numbers::draw_number;
-use output_u64::Encoding;
+use methods::{SamplingMethod, check_length, check_modulus, maximum_magnitude};
+use numbers::first_refusal;
+use output::Residues;
 
 // A prepared method with the modulus of its residues.
-#[derive(Clone, Copy)]
+#[derive(Clone, Copy, Debug, PartialEq)]
 pub struct ResidueMethod {
-    pub prepared: PreparedMethod,
+    pub prepared: Result<SamplingMethod, Refusal>,
     pub modulus: u64,
 }
 
-// What refuses so many residues of a modulus: 7 or 8 for the length, 10 for a centered binomial's of 0, then 9 for a modulus that is not above the
-// largest magnitude; else 0.
-pub fn residue_number(method: SamplingMethod, length: usize, modulus: u64) -> u32
-    ensures { result ≡ first_of (residue_numbers method length modulus) }
+// Tests what is asked of so many residues of a modulus: 7 or 8 for the length, 10 for a centered binomial's of 0, then 9 for a modulus that is not above
+// the largest magnitude.
+#[tactic(auto, unfolding(distr::specs::Numbers::first_of))]
+pub fn check_residues(method: SamplingMethod, length: usize, modulus: u64) -> Result<(), Refusal>
+    ensures { number_of result ≡ first_of (residue_numbers method length modulus) }
 {
-    let number = length_number(method, length);
-    if number != 0 {
-        return number;
-    }
+    check_length(method, length)?;
     if is_binomial(method) & (modulus == 0) {
-        return MODULUS_ZERO;
+        return Err(Refusal::ModulusZero);
     }
-    modulus_number(maximum_magnitude(method), modulus)
+    check_modulus(maximum_magnitude(method), modulus)
 }
 
 // Draws residues over the whole output. The modulus is judged after the length and before the tables: 22, 6, 7 or 8, 10, 9, the tables', 23. A centered
@@ -53,24 +52,21 @@ pub fn sample_encoded_to(
     ensures output_after { outcome result output.new ≡ prepared_draw by.prepared place output.old (λ (m : SamplingMethod). encoded_by m
         (lent bounds.now endpoints.now heights.now curve.now)
         by.modulus words.now place output.old) }
-    ensures result_value { sums result ≡ reported result.number (method_skips by.prepared.method (lent bounds.now endpoints.now heights.now curve.now) (length output.old) (drop place words.now)) }
+    ensures result_value { sums result ≡ reported result.number (prepared_skips by.prepared (λ (m : SamplingMethod). method_skips m (lent bounds.now endpoints.now heights.now curve.now) (length output.old) (drop place words.now))) }
 {
-    let prepared = by.prepared;
     let modulus = by.modulus;
-    let refusal = prepared.number;
-    if refusal != 0 {
-        return refused(refusal, place);
-    }
-    let method = prepared.method;
-    let asked = residue_number(method, output.len(), modulus);
-    if asked != 0 {
-        let number = draw_number(words.len(), place, output.len(), asked);
-        return refused(number, place);
+    let method = match by.prepared {
+        Ok(method) => method,
+        Err(why) => return refused(why, place),
+    };
+    if let Err(why) = check_residues(method, output.len(), modulus) {
+        let first = first_refusal(words.len(), place, output.len(), why);
+        return refused(first, place);
     }
     let minus_one = modulus - 1;
     sample_to_with(
         output,
-        Encoding { minus_one },
+        Residues { minus_one },
         method,
         bounds,
         endpoints,

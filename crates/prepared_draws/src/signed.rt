@@ -5,17 +5,18 @@ ghost use Rattle.distr.specs.Answers.{sums, reported};
 ghost use Rattle.methods.specs.declared.SamplingMethod.{SamplingMethod};
 ghost use Rattle.method_draws.specs.Drawing.{method_draw, method_skips};
 ghost use Rattle.signed_discrete_gaussian.specs.Lent.{lent};
-ghost use Rattle.prepared_draws.specs.Drawing.{prepared_draw};
+ghost use Rattle.prepared_draws.specs.Drawing.{prepared_draw, prepared_skips};
 
 use distr::answer::{Answer, refused};
-use method_draws_i64::sample_to_with;
-use methods::PreparedMethod;
-use output_i64::Encoding;
+use distr::refusal::Refusal;
+use method_draws::sample_to_with;
+use methods::SamplingMethod;
+use output::Signed;
 
 // Draws signed coefficients over the whole output. The family is chosen once, before any coefficient is drawn.
 pub fn sample_signed_to(
     output: &mut [i64],
-    prepared: PreparedMethod,
+    prepared: Result<SamplingMethod, Refusal>,
     bounds: &[u64],
     endpoints: &[u64],
     heights: &[f64],
@@ -26,16 +27,15 @@ pub fn sample_signed_to(
     ensures output_after { outcome result output.new ≡ prepared_draw prepared place output.old (λ (m : SamplingMethod). method_draw (λ cs. cs) m
         (lent bounds.now endpoints.now heights.now curve.now)
         words.now place output.old) }
-    ensures result_value { sums result ≡ reported result.number (method_skips prepared.method (lent bounds.now endpoints.now heights.now curve.now) (length output.old) (drop place words.now)) }
+    ensures result_value { sums result ≡ reported result.number (prepared_skips prepared (λ (m : SamplingMethod). method_skips m (lent bounds.now endpoints.now heights.now curve.now) (length output.old) (drop place words.now))) }
 {
-    let number = prepared.number;
-    if number != 0 {
-        return refused(number, place);
-    }
-    let method = prepared.method;
+    let method = match prepared {
+        Ok(method) => method,
+        Err(why) => return refused(why, place),
+    };
     sample_to_with(
         output,
-        Encoding {},
+        Signed {},
         method,
         bounds,
         endpoints,

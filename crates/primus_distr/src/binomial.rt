@@ -40,14 +40,21 @@ fn as_error(sampler: CenteredBinomial) -> ErrorSampler
 
 impl CenteredBinomial {
     // Prepares a sampler: 4 for an eta outside 1 to 32.
+    #[tactic(auto, unfolding(distr::specs::Making::error_number))]
     pub fn new(eta: u32) -> MadeCenteredBinomial
         ensures { result ≡ making_binomial eta }
     {
-        let made = CenteredBinomialParameters::new(eta);
-        let parameters = made.parameters;
-        MadeCenteredBinomial {
-            number: made.number,
-            sampler: CenteredBinomial { parameters },
+        match CenteredBinomialParameters::new(eta) {
+            Ok(parameters) => MadeCenteredBinomial {
+                number: 0,
+                sampler: CenteredBinomial { parameters },
+            },
+            Err(why) => MadeCenteredBinomial {
+                number: why.number(),
+                sampler: CenteredBinomial {
+                    parameters: CenteredBinomialParameters { eta: 0, mask: 0 },
+                },
+            },
         }
     }
 

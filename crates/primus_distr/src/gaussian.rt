@@ -11,6 +11,7 @@ use distr::answer::Answer;
 use distr::error_distribution::ErrorDistribution;
 use distr::gaussian_parameters::GaussianParameters;
 use error_sampler::ErrorSampler;
+use gaussian_core::parameters::new_parameters;
 use methods::SamplingMethod;
 
 // The deviation and its support. The fields are public, so a draw judges them first (21).
@@ -44,11 +45,20 @@ impl SignedDiscreteGaussian {
     pub fn new(standard_deviation: f64) -> MadeSignedDiscreteGaussian
         ensures { result ≡ making_gaussian standard_deviation }
     {
-        let made = gaussian_core::parameters::new_parameters(standard_deviation);
-        let parameters = made.parameters;
-        MadeSignedDiscreteGaussian {
-            number: made.number,
-            sampler: SignedDiscreteGaussian { parameters },
+        match new_parameters(standard_deviation) {
+            Ok(parameters) => MadeSignedDiscreteGaussian {
+                number: 0,
+                sampler: SignedDiscreteGaussian { parameters },
+            },
+            Err(why) => MadeSignedDiscreteGaussian {
+                number: why.number(),
+                sampler: SignedDiscreteGaussian {
+                    parameters: GaussianParameters {
+                        standard_deviation: 0.0,
+                        maximum_magnitude: 0,
+                    },
+                },
+            },
         }
     }
 

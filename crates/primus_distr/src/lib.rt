@@ -13,6 +13,7 @@ pub use crt::{RowRange, crt_row, crt_row_range};
 pub use distr::answer::Answer;
 pub use distr::error_distribution::ErrorDistribution;
 pub use distr::gaussian_parameters::GaussianParameters;
+pub use distr::refusal::{Refusal, number_of};
 pub use distr::secret_key_distr::{BlockOccupancy, SecretKeyDistr};
 pub use error_sampler::{ErrorSampler, MadeErrorSampler};
 pub use gaussian::{MadeSignedDiscreteGaussian, SignedDiscreteGaussian};

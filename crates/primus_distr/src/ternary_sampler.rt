@@ -9,6 +9,7 @@ ghost use Rattle.primus_distr.specs.Views.{making_ternary, as_key};
 use distr::answer::Answer;
 use distr::secret_key_distr::SecretKeyDistr;
 use methods::SamplingMethod;
+use secret_key_method::prepare::ternary_ends;
 use secret_key_sampler::SecretKeySampler;
 use ternary::ternary::TernaryEnds;
 
@@ -46,13 +47,17 @@ impl TernarySampler {
     pub fn try_new(negative_one_probability: f64, one_probability: f64) -> MadeTernarySampler
         ensures { result ≡ making_ternary negative_one_probability one_probability }
     {
-        let number = probability::check_ternary_probabilities(
-            negative_one_probability,
-            one_probability,
-        );
-        if number != 0 {
-            return MadeTernarySampler {
-                number,
+        match ternary_ends(negative_one_probability, one_probability) {
+            Ok(ends) => MadeTernarySampler {
+                number: 0,
+                sampler: TernarySampler {
+                    negative_one_probability,
+                    one_probability,
+                    ends,
+                },
+            },
+            Err(why) => MadeTernarySampler {
+                number: why.number(),
                 sampler: TernarySampler {
                     negative_one_probability: 0.0,
                     one_probability: 0.0,
@@ -61,19 +66,6 @@ impl TernarySampler {
                         nonzero_end: 0,
                     },
                 },
-            };
-        }
-        let negative = probability::threshold_of(negative_one_probability);
-        let positive = probability::threshold_of(one_probability);
-        let below = negative.threshold;
-        let above = positive.threshold;
-        let ends = ternary::ternary::from_thresholds(below, above);
-        MadeTernarySampler {
-            number: 0,
-            sampler: TernarySampler {
-                negative_one_probability,
-                one_probability,
-                ends,
             },
         }
     }

@@ -5,22 +5,16 @@ ghost use Rattle.std.specs.Prelude.{◌≡◌};
 ghost use Rattle.std.specs.Float.Ieee.Scale.{finite};
 ghost use Rattle.distr.specs.Constants.{invalid_probabilities};
 ghost use Rattle.distr.specs.Making.{bad_probability, bad_probabilities, refuse};
+ghost use Rattle.distr.specs.Refusals.{number_of};
 ghost use Rattle.probability.specs.Made.{made_threshold};
 
-use distr::refusal::INVALID_PROBABILITIES;
+use distr::refusal::Refusal;
 use distr::threshold::Threshold;
-
-// A number, 1 for what is no probability, and the threshold where it is 0.
-#[derive(Clone, Copy)]
-pub struct MadeThreshold {
-    pub number: u32,
-    pub threshold: Threshold,
-}
 
 // 2^64, which an f64 holds exactly.
 const FULL_AS_F64: f64 = 18446744073709551616.0;
 
-// Neither a NaN nor an infinity.
+// Neither a NaN nor an infinity: by two comparisons, since the library's `is_finite`, which subtracts, makes the test of a draw's tables slower.
 pub fn is_finite(x: f64) -> bool
     ensures { result ≡ finite x }
 {
@@ -34,42 +28,30 @@ fn bad_probability(p: f64) -> bool
     !(is_finite(p) & ((0.0 <= p) & (p <= 1.0)))
 }
 
-// 1 where a probability is refused or the two exceed one, as `negative > 1.0 - positive` judges it; else 0.
-pub fn check_ternary_probabilities(negative: f64, positive: f64) -> u32
-    ensures { result ≡ refuse (bad_probabilities negative positive) invalid_probabilities }
+// Refuses two probabilities of which one is none, or which exceed one, as `negative > 1.0 - positive` judges it.
+pub fn check_ternary_probabilities(negative: f64, positive: f64) -> Result<(), Refusal>
+    ensures { number_of result ≡ refuse (bad_probabilities negative positive) invalid_probabilities }
 {
     if bad_probability(negative) | bad_probability(positive) | (negative > 1.0 - positive) {
-        INVALID_PROBABILITIES
+        Err(Refusal::InvalidProbabilities)
     } else {
-        0
+        Ok(())
     }
 }
 
 // The threshold ⌊p × 2^64⌋ of a probability. The product is exact, since it only moves the exponent, and below 2^64 for p below 1.
-pub fn threshold_of(p: f64) -> MadeThreshold
+pub fn threshold_of(p: f64) -> Result<Threshold, Refusal>
     ensures { result ≡ made_threshold p }
 {
     if bad_probability(p) {
-        return MadeThreshold {
-            number: INVALID_PROBABILITIES,
-            threshold: Threshold {
-                full: false,
-                below: 0,
-            },
-        };
+        return Err(Refusal::InvalidProbabilities);
     }
     if p < 1.0 {
         let below = std::num::truncating_f64_to_u64(p * FULL_AS_F64);
-        return MadeThreshold {
-            number: 0,
-            threshold: Threshold { full: false, below },
-        };
+        return Ok(Threshold { full: false, below });
     }
-    MadeThreshold {
-        number: 0,
-        threshold: Threshold {
-            full: true,
-            below: 0,
-        },
-    }
+    Ok(Threshold {
+        full: true,
+        below: 0,
+    })
 }

@@ -10,10 +10,10 @@ use borrow.Author.Tests.{leb-true, lt-leb, le-leb}
 use lib.Dec.{leb}
 use lib.ListN.{length, get_or, drop, drop_of_length-le}
 use lib.Seq.{drop-cons}
+use Rattle.std.proofs.Common.{Some, None}
 use Rattle.distr.proofs.Reading.{both_true}
 use Rattle.decimal.specs.Decimal.{value_from}
 use Rattle.residue_text.specs.Numbers.{is_digit, all_digits, value_of, number_of}
-use Rattle.residue_text.specs.declared.number.Number.{Number}
 
 -- a value never falls by more digits
 value-le : (v : ℕ) (bs : List ℕ) → v ≤ value_from v bs
@@ -23,13 +23,6 @@ value-le v (b ∷ bs) = le_trans (omega arith) (value-le (v * 10 + (b - 48)) bs)
 
 pub digit-bounds : (b : ℕ) → is_digit b ≡ true → (48 ≤ b) × (b ≤ 57)
 digit-bounds b e = let both = both_true (leb 48 b) (leb b 57) e in (leb-true 48 b both.0, leb-true b 57 both.1)
-
--- what is said of a token that is no number, and of one that is
-abbrev pub no_number : Number
-no_number = record { good = false; value = 0 }
-
-abbrev pub a_number : ℕ → Number
-a_number v = record { good = true; value = v }
 
 -- the first i bytes of the token are digits, and v is their value
 pub record Judged (token : List ℕ) (i v : ℕ) : Type 0 where
@@ -56,19 +49,19 @@ module _ (token : List ℕ) where
   })
 
   module _ (most : ℕ) where
-    not-digits : all_digits token ≡ false → number_of most token ≡ no_number
+    not-digits : all_digits token ≡ false → number_of most token ≡ None
     not-digits e = rw e
 
-    pub judged-bad : (i v : ℕ) → i < length token → is_digit (get_or token i 0) ≡ false → Judged token i v → number_of most token ≡ no_number
+    pub judged-bad : (i v : ℕ) → i < length token → is_digit (get_or token i 0) ≡ false → Judged token i v → number_of most token ≡ None
     judged-bad i v h e j = not-digits (j.digits ∙ digits_at_lem i h ∙ ap (λ (t : Bool). t && all_digits (drop (suc i) token)) e)
 
-    too_large : (t : Bool) → most < value_of token → all_digits token ≡ t → number_of most token ≡ no_number
+    too_large : (t : Bool) → most < value_of token → all_digits token ≡ t → number_of most token ≡ None
     too_large true h e = rw (e, lt-leb (value_of token) most h)
     too_large false h e = not-digits e
 
-    pub judged_large : (i v : ℕ) → most < v → Judged token i v → number_of most token ≡ no_number
+    pub judged_large : (i v : ℕ) → most < v → Judged token i v → number_of most token ≡ None
     judged_large i v h j = too_large (all_digits token) (omega (arith, value-le v (drop i token), j.value)) refl
 
-    pub judged-all : (i v : ℕ) → length token ≤ i → v ≤ most → Judged token i v → number_of most token ≡ a_number v
+    pub judged-all : (i v : ℕ) → length token ≤ i → v ≤ most → Judged token i v → number_of most token ≡ Some v
     unfolding all_digits value_from
     judged-all i v h l j = rw (j.digits, j.value, drop_of_length-le token h, le-leb v most l)

@@ -10,11 +10,12 @@ use borrow.Author.Tests.{not-true, lt-ltb, le-ltb}
 use lib.Dec.{ltb}
 use lib.ListN.{length, get_or, take, drop, set, length-set, length-drop, take-append-drop, drop_of_length-le}
 use lib.Seq.{take-suc-set, append_snoc, drop-set-lt, drop-drop, get_or-drop, length-take-le}
+use Rattle.residue_text.specs.declared.scan.Kind.TheVariants.{NoSpace}
 use Rattle.residue_text.specs.Tokens.{is_space, sought, before, tokens}
 use Rattle.decimal.specs.Decimal.{front}
 use Rattle.residue_text.specs.Numbers.{is_number, value_of, number_of, numbers_of, numbers_in, numbers_read}
-use Rattle.residue_text.specs.declared.number.Number.{Number}
 use Rattle.residue_text.specs.declared.numbers.Numbers.{Numbers}
+use Rattle.std.proofs.Common.{cond, Option, Some, None}
 use Rattle.residue_text.proofs.Scanning.{before_stops}
 use Rattle.residue_text.proofs.Splitting.{tokens_none, tokens_skip, tokens-next}
 
@@ -38,12 +39,27 @@ numbers_more : (room most : ℕ) (t : List ℕ) (ts : List (List ℕ)) → is_nu
 unfolding numbers_of
 numbers_more room most t ts e = rw e
 
+-- what reading a token handed back says of it
+number-none : (most : ℕ) (t : List ℕ) → number_of most t ≡ None → is_number most t ≡ false
+number-none most t e = go (is_number most t) e
+  where
+    go : (b : Bool) → cond b (Some (value_of t)) None ≡ None → b ≡ false
+    go true e = cc
+    go false e = refl
+
+number-some : (most : ℕ) (t : List ℕ) (v : ℕ) → number_of most t ≡ Some v → (is_number most t ≡ true) × (v ≡ value_of t)
+number-some most t v e = go (is_number most t) e
+  where
+    go : (b : Bool) → cond b (Some (value_of t)) None ≡ Some v → (b ≡ true) × (v ≡ value_of t)
+    go true e = (refl, cc)
+    go false e = (cc, cc)
+
 module _ (text : List ℕ) where
   -- past spaces stands the end, or a byte that is no space
-  pub space_passed : (from at : ℕ) → at ≡ from + before (sought 2) (drop from text) → at < length text → is_space (get_or text at 0) ≡ false
+  pub space_passed : (from at : ℕ) → at ≡ from + before (sought NoSpace) (drop from text) → at < length text → is_space (get_or text at 0) ≡ false
   space_passed from at e h =
-      let here : before (sought 2) (drop from text) < length (drop from text) = omega (arith, length-drop from text) in
-      rw (e, ← get_or-drop from text (before (sought 2) (drop from text)) 0) (not-true _ (before_stops (sought 2) (drop from text) here))
+      let here : before (sought NoSpace) (drop from text) < length (drop from text) = omega (arith, length-drop from text) in
+      rw (e, ← get_or-drop from text (before (sought NoSpace) (drop from text)) 0) (not-true _ (before_stops (sought NoSpace) (drop from text) here))
 
   -- the token that begins at a byte which is no space, up to its end
   pub token_here : (at end : ℕ) → at < length text → is_space (get_or text at 0) ≡ false → end ≡ at + before is_space (drop at text)
@@ -68,10 +84,10 @@ module _ (most : ℕ) (text room₀ : List ℕ) where
   pub held_first : Held 0 0 room₀
   held_first = record { all = rw sub-zero; counted = omega arith; behind = refl; fits = omega arith; same = refl }
 
-  pub held_skip : (count from at : ℕ) (room : List ℕ) → at ≡ from + before (sought 2) (drop from text) → Held count from room → Held count at room
+  pub held_skip : (count from at : ℕ) (room : List ℕ) → at ≡ from + before (sought NoSpace) (drop from text) → Held count from room → Held count at room
   held_skip count from at room e h =
       let left : tokens (drop at text) ≡ tokens (drop from text) =
-      rw (e, ← drop-drop (before (sought 2) (drop from text)) from text) (tokens_skip (drop from text)) in
+      rw (e, ← drop-drop (before (sought NoSpace) (drop from text)) from text) (tokens_skip (drop from text)) in
       record { all = rw left h.all; counted = rw left h.counted; behind = h.behind; fits = h.fits; same = h.same }
 
   -- what is promised of the answer and of the room at the end
@@ -98,7 +114,7 @@ module _ (most : ℕ) (text room₀ : List ℕ) where
       held-end count at room false h (rw none (numbers_none (length room₀ - count) most))
       (sym (le-ltb count (count + length (tokens (drop at text))) (omega (arith, ap length none))))
 
-  module _ (count at end : ℕ) (room : List ℕ) (n : Number) (inside : at < length text) (clear : is_space (get_or text at 0) ≡ false)
+  module _ (count at end : ℕ) (room : List ℕ) (n : Option ℕ) (inside : at < length text) (clear : is_space (get_or text at 0) ≡ false)
       (ends : end ≡ at + before is_space (drop at text)) (is : n ≡ number_of most (take (end - at) (drop at text))) (h : Held count at room) where
     left : tokens (drop at text) ≡ take (end - at) (drop at text) ∷ tokens (drop end text)
     left = token_here text at end inside clear ends
@@ -112,14 +128,15 @@ module _ (most : ℕ) (text room₀ : List ℕ) where
         let none : length room₀ - count ≡ 0 = omega arith in
         held-end count at room true h (rw none (numbers_full most (tokens (drop at text)))) more_left
 
-    pub held-bad : n.good ≡ false → Ended count true room
-    held-bad g =
-        held-end count at room true h (rw left (numbers-bad (length room₀ - count) most _ _ (sym (ap (λ (m : Number). m.good) is) ∙ g))) more_left
+    pub held-bad : n ≡ None → Ended count true room
+    held-bad none =
+        held-end count at room true h (rw left (numbers-bad (length room₀ - count) most _ _ (number-none most _ (sym is ∙ none)))) more_left
 
-    pub held_more : count < length room₀ → n.good ≡ true → Held (count + 1) end (set room count n.value)
-    held_more l g =
-        let good : is_number most (take (end - at) (drop at text)) ≡ true = sym (ap (λ (m : Number). m.good) is) ∙ g in
-        let value : n.value ≡ value_of (take (end - at) (drop at text)) = ap (λ (m : Number). m.value) is ∙ rw good in
+    pub held_more : count < length room₀ → (v : ℕ) → n ≡ Some v → Held (count + 1) end (set room count v)
+    held_more l v some =
+        let number = number-some most (take (end - at) (drop at text)) v (sym is ∙ some) in
+        let good = number.0 in
+        let value = number.1 in
         let less : length room₀ - count ≡ suc (length room₀ - (count + 1)) = omega arith in
         let within : count < length room = omega (arith, h.same) in
         record {
@@ -129,13 +146,13 @@ module _ (most : ℕ) (text room₀ : List ℕ) where
             numbers_more (length room₀ - (count + 1)) most (take (end - at) (drop at text)) (tokens (drop end text)) good,
             ← value,
             add-one count,
-            take-suc-set room count n.value within,
+            take-suc-set room count v within,
             append_snoc,
           );
           counted = omega (arith, h.counted, ap length left);
           behind =
-              rw (add-one count, drop-set-lt (suc count) room count n.value (omega arith))
+              rw (add-one count, drop-set-lt (suc count) room count v (omega arith))
               (rw (← add-one count, ← drop-drop 1 count room, h.behind, drop-drop));
           fits = omega arith;
-          same = length-set room count n.value ∙ h.same;
+          same = length-set room count v ∙ h.same;
         }

@@ -5,6 +5,7 @@ use mathlib.Core.List.{List, [], ◌∷◌}
 use Prim.Native.Nat.{ℕ, suc, ◌+◌, ◌<◌}
 use lib.ListN.{length, get_or, take, drop}
 use lib.Seq.{drop-cons, drop-drop}
+use Rattle.residue_text.specs.declared.scan.Kind.TheVariants.{NoSpace}
 use Rattle.residue_text.specs.Tokens.{is_space, sought, before, goes_on, onto, tokens}
 
 pub tokens_none : tokens [] ≡ []
@@ -16,13 +17,13 @@ unfolding tokens
 pass b bs e = rw e
 
 -- the bytes before the first that is no space hold no token
-pub tokens_skip : (text : List ℕ) → tokens (drop (before (sought 2) text) text) ≡ tokens text
+pub tokens_skip : (text : List ℕ) → tokens (drop (before (sought NoSpace) text) text) ≡ tokens text
 unfolding before
 tokens_skip [] = refl
 tokens_skip (b ∷ bs) = go (is_space b) refl (tokens_skip bs)
   where
-    go : (t : Bool) → is_space b ≡ t → tokens (drop (before (sought 2) bs) bs) ≡ tokens bs
-        → tokens (drop (cond (not t) 0 (suc (before (sought 2) bs))) (b ∷ bs)) ≡ tokens (b ∷ bs)
+    go : (t : Bool) → is_space b ≡ t → tokens (drop (before (sought NoSpace) bs) bs) ≡ tokens bs
+        → tokens (drop (cond (not t) 0 (suc (before (sought NoSpace) bs))) (b ∷ bs)) ≡ tokens (b ∷ bs)
     go true e more = more ∙ sym (pass b bs e)
     go false e more = refl
 

@@ -1,8 +1,7 @@
 -- The numbers that tokens stand for, and where they are put.
-use Rattle.std.specs.Prelude.{ℕ, zero, suc, Bool, true, cond, ◌&&◌, List, [], ◌∷◌, leb, ltb, length}
+use Rattle.std.specs.Prelude.{ℕ, zero, suc, Bool, true, cond, ◌&&◌, List, [], ◌∷◌, Option, Some, None, leb, ltb, length}
 use Rattle.decimal.specs.Decimal.{value_from}
 use Rattle.residue_text.specs.Tokens.{tokens}
-use Rattle.residue_text.specs.declared.number.Number.{Number}
 use Rattle.residue_text.specs.declared.numbers.Numbers.{Numbers}
 
 -- The bytes "0" to "9".
@@ -22,9 +21,9 @@ value_of token = value_from 0 token
 abbrev pub is_number : ℕ → List ℕ → Bool
 is_number most token = all_digits token && leb (value_of token) most
 
--- What reading a token hands back: whether it is such a number, and its value, which is 0 where it is none.
-abbrev pub number_of : ℕ → List ℕ → Number
-number_of most token = record { good = is_number most token; value = cond (is_number most token) (value_of token) 0 }
+-- What reading a token hands back: its value, where it is such a number.
+abbrev pub number_of : ℕ → List ℕ → Option ℕ
+number_of most token = cond (is_number most token) (Some (value_of token)) None
 
 -- The numbers of tokens up to the first that is none, and no more of them than there is room for.
 unfoldable pub numbers_of : ℕ → ℕ → List (List ℕ) → List ℕ

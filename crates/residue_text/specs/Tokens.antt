@@ -1,5 +1,7 @@
 -- The lines of a text and its tokens, the runs of bytes with spaces between them.
 use Rattle.std.specs.Prelude.{ℕ, suc, ◌≤◌, ◌≡◌, Bool, false, not, cond, ◌||◌, List, [], ◌∷◌, eqb, length, take, drop}
+use Rattle.residue_text.specs.declared.scan.Kind.{Kind}
+use Rattle.residue_text.specs.declared.scan.Kind.TheVariants.{Newline, Space, NoSpace}
 
 -- The byte that ends a line.
 abbrev pub is_newline : ℕ → Bool
@@ -9,9 +11,11 @@ is_newline b = eqb b 10
 abbrev pub is_space : ℕ → Bool
 is_space b = eqb b 32 || eqb b 9 || eqb b 13 || eqb b 10
 
--- The bytes that are sought: by 0 a newline, by 1 a space, by any other number a byte that is no space.
-abbrev pub sought : ℕ → ℕ → Bool
-sought what b = cond (eqb what 0) (is_newline b) (cond (eqb what 1) (is_space b) (not (is_space b)))
+-- The bytes that are sought: a newline, a space, or a byte that is no space.
+abbrev pub sought : Kind → ℕ → Bool
+sought Newline b = is_newline b
+sought Space b = is_space b
+sought NoSpace b = not (is_space b)
 
 -- How many bytes stand before the first of which p holds: all of them where there is none.
 unfoldable pub before : (ℕ → Bool) → List ℕ → ℕ

@@ -18,7 +18,7 @@ use distr::limits::MAX_EXACT_F64_INTEGER;
 
 // What a text holds. `bad_part` is 0 for a good text, and 1, 2 or 3 where a number on the first line, on the second or after it is bad; `position`
 // says then which number of the text that is, counted from 1, and the other fields are 0.
-#[derive(Clone, Copy)]
+#[derive(Clone, Copy, Debug, PartialEq, Eq)]
 pub struct Input {
     pub bad_part: u32,
     pub position: usize,
@@ -28,7 +28,7 @@ pub struct Input {
 }
 
 // What a line holds that should be a modulus alone: the modulus, or 0, and whether a token is left over.
-#[derive(Clone, Copy)]
+#[derive(Clone, Copy, Debug, PartialEq, Eq)]
 struct First {
     modulus: u64,
     more: bool,

@@ -3,44 +3,41 @@ ghost use Rattle.std.specs.Prelude.{◌≡◌, ◌+◌, ◌≤◌, length, drop}
 ghost use Rattle.residue_text.specs.Tokens.{sought, before, Lined};
 
 // What is sought: a newline, a space, or a byte that is no space.
-const NEWLINE: u8 = 0;
-
-pub(crate) const SPACE: u8 = 1;
-
-pub(crate) const NO_SPACE: u8 = 2;
+#[derive(Clone, Copy, Debug, PartialEq, Eq)]
+pub(crate) enum Kind {
+    Newline,
+    Space,
+    NoSpace,
+}
 
 // Whether a byte is of the kind that is sought.
-fn is_sought(what: u8, byte: u8) -> bool
+fn is_sought(what: Kind, byte: u8) -> bool
     ensures { result ≡ sought what byte }
 {
-    if what == NEWLINE {
-        return byte == b'\n';
-    }
     let space = (byte == b' ') | (byte == b'\t') | (byte == b'\r') | (byte == b'\n');
-    if what == SPACE {
-        return space;
+    match what {
+        Kind::Newline => byte == b'\n',
+        Kind::Space => space,
+        Kind::NoSpace => !space,
     }
-    !space
 }
 
 // Where the first byte of the kind that is sought stands, from `at` on: at the text's end where there is none.
-pub(crate) fn scan(text: &[u8], at: usize, what: u8) -> usize
+pub(crate) fn scan(text: &[u8], at: usize, what: Kind) -> usize
     requires { at ≤ length text.now }
     ensures value { result ≡ at + before (sought what) (drop at text.now) }
     ensures upper_bound { result ≤ length text.now }
 {
-    let mut i = at;
-    while i < text.len() {
+    for i in at..text.len() {
         if is_sought(what, text[i]) {
             return i;
         }
-        i += 1;
     }
-    i
+    text.len()
 }
 
 // Where the first line of a text ends, and where the text after it begins.
-#[derive(Clone, Copy)]
+#[derive(Clone, Copy, Debug, PartialEq, Eq)]
 pub(crate) struct Line {
     pub end: usize,
     pub next: usize,
@@ -50,7 +47,7 @@ pub(crate) struct Line {
 pub(crate) fn first_line(text: &[u8]) -> Line
     ensures { Lined text.now result.end result.next }
 {
-    let end = scan(text, 0, NEWLINE);
+    let end = scan(text, 0, Kind::Newline);
     if end < text.len() {
         return Line { end, next: end + 1 };
     }

@@ -3,15 +3,12 @@ use Rattle.distr.specs.declared.secret_key_distr.SecretKeyDistr.{SecretKeyDistr}
 use Rattle.distr.specs.declared.secret_key_distr.SecretKeyDistr.TheVariants as Distr
 use Rattle.distr.specs.Thresholds.{threshold}
 use Rattle.distr.specs.Gaussian.{support}
-use Rattle.distr.specs.Making.{secret_number}
 use Rattle.probability.specs.Made.{flagged}
 use Rattle.ternary.specs.Sampler.{sampler_of}
-use Rattle.methods.specs.declared.PreparedMethod.{PreparedMethod}
 use Rattle.methods.specs.declared.SamplingMethod.{SamplingMethod}
 use Rattle.methods.specs.declared.SamplingMethod.TheVariants.{UniformBinary, Binary, SparseTernary, UniformTernary, Ternary}
 use Rattle.methods.specs.declared.SamplingMethod.TheVariants.{FixedHammingWeightBinary, BlockBinary, Gaussian}
 use Rattle.methods.specs.declared.SamplingMethod.TheVariants.{FixedHammingWeightTernary, FixedCompositionTernary}
-use Rattle.methods.specs.Method.{judged_method}
 
 unfoldable pub prepared : SecretKeyDistr → SamplingMethod
 prepared Distr.UniformBinary = UniformBinary
@@ -24,7 +21,3 @@ prepared (Distr.BlockBinary size occupancy) = BlockBinary size occupancy
 prepared (Distr.FixedHammingWeightTernary h) = FixedHammingWeightTernary h
 prepared (Distr.FixedCompositionTernary minus ones) = FixedCompositionTernary minus ones
 prepared (Distr.Gaussian deviation) = Gaussian (record { standard_deviation = deviation; maximum_magnitude = support deviation })
-
--- What making prepares: a number from 1 to 5, or 0 and the method.
-abbrev pub preparing : SecretKeyDistr → PreparedMethod
-preparing d = judged_method (secret_number d) (prepared d)

@@ -1,21 +1,19 @@
 -- The secret-key sampler as a kind of sampler, by which the laws of making hold of it; and number 21.
 use mathlib.Core.Path.{◌≡◌, refl}
 use mathlib.Core.Bool.{Bool, false}
-use borrow.Author.Tests.{ne_eqb}
 use lib.Dec.{T}
 use lib.Ieee.{binary64, fits}
 use Rattle.distr.specs.declared.secret_key_distr.SecretKeyDistr.{SecretKeyDistr}
 use Rattle.distr.specs.Distribution.{secret}
 use Rattle.distr.specs.Making.{secret_number, making_number, largest}
 use Rattle.draw_laws.proofs.Making as Making
-use Rattle.draw_laws.proofs.Making.{Makes, call_number}
+use Rattle.draw_laws.proofs.Making.{Makes}
 use Rattle.methods.specs.declared.SamplingMethod.{SamplingMethod}
-use Rattle.methods.specs.declared.SamplingMethod.TheVariants.{Empty}
-use Rattle.methods.specs.Method.{judged_method, tested_method, magnitude_of}
+use Rattle.methods.specs.Method.{magnitude_of}
 use Rattle.methods.specs.Keys.{method_key, same_key}
 use Rattle.secret_key_method.specs.Method.{prepared}
 use Rattle.secret_key_method.proofs.Prepared.{same-prepared, prepared-same, prepared-magnitude}
-use Rattle.method_draws.specs.Drawing.{prepared_method, preparing}
+use Rattle.method_draws.specs.Drawing.{prepared_method}
 use Rattle.secret_key_sampler.specs.declared.SecretKeySampler.{SecretKeySampler}
 use Rattle.secret_key_sampler.specs.declared.MadeSecretKeySampler.{MadeSecretKeySampler}
 use Rattle.secret_key_sampler.specs.Sampler.{empty_sampler, making, is_made}
@@ -81,11 +79,3 @@ made-magnitude = Making.good-magnitude makes
 
 pub prepared-made : (d : SecretKeyDistr) → secret_number d ≡ 0 → T (is_made (record { distr = d; method = prepared d }))
 prepared-made = Making.prepared-good makes
-
--- A call that makes a sampler of d and draws by it: refused by the number of making, or by the method that is prepared for d.
-module _ (d : SecretKeyDistr) {m : MadeSecretKeySampler} (h : m ≡ making d) where
-  pub made-refused : (m.number ≡ 0 → ⊥) → judged_method m.number Empty ≡ preparing (secret d)
-  made-refused never = rw (← call_number makes d m h, ne_eqb m.number 0 never)
-
-  pub made-method_of : m.number ≡ 0 → tested_method (is_made m.sampler) m.sampler.method ≡ preparing (secret d)
-  made-method_of z = let made = Making.call_made makes d m h z in rw (← call_number makes d m h, z, made.0, made.1, prepares d)

@@ -6,14 +6,16 @@ mod draws;
 ghost use Rattle.std.specs.Prelude.{◌≡◌, not, [], ◌∷◌};
 ghost use Rattle.distr.specs.Distribution.{secret};
 ghost use Rattle.distr.specs.Making.{refuse, largest};
+ghost use Rattle.distr.specs.Constants.{never_made};
 ghost use Rattle.distr.specs.Numbers.{first_of, length_number, modulus_number};
-ghost use Rattle.methods.specs.Method.{tested_method, magnitude_of};
+ghost use Rattle.distr.specs.Refusals.{number_of, Makes};
+ghost use Rattle.methods.specs.Method.{magnitude_of};
 ghost use Rattle.secret_key_sampler.specs.Sampler.{making, is_made};
 
-use distr::refusal::NEVER_MADE;
+use distr::refusal::Refusal;
 use distr::secret_key_distr::SecretKeyDistr;
-use methods::key::{method_key, same_key};
-use methods::{PreparedMethod, SamplingMethod, length_number, tested, validated_modulus};
+use methods::key::same_method;
+use methods::{SamplingMethod, check_length, check_modulus_by, tested};
 pub use secret_key_method::family::{is_binary, is_ternary};
 use secret_key_method::prepare;
 
@@ -36,43 +38,39 @@ impl SecretKeySampler {
     pub fn try_new(distr: SecretKeyDistr) -> MadeSecretKeySampler
         ensures { result ≡ making distr }
     {
-        let prepared = prepare::prepare(distr);
-        let number = prepared.number;
-        let method = prepared.method;
-        if number == 0 {
-            MadeSecretKeySampler {
+        match prepare::prepare(distr) {
+            Ok(method) => MadeSecretKeySampler {
                 number: 0,
                 sampler: SecretKeySampler { distr, method },
-            }
-        } else {
-            MadeSecretKeySampler {
-                number,
+            },
+            Err(why) => MadeSecretKeySampler {
+                number: why.number(),
                 sampler: SecretKeySampler {
                     distr: SecretKeyDistr::UniformBinary,
                     method: SamplingMethod::Empty,
                 },
-            }
+            },
         }
     }
 
-    // 0, or 21 for a sampler that making never gives, 7 for weights over the length, 8 for a length that is no whole number of blocks.
-    pub fn validate_length(self, length: usize) -> u32
-        ensures { result ≡ first_of (refuse (not (is_made self)) 21 ∷ length_number (secret self.distr) length ∷ []) }
+    // Refuses with 21 a sampler that making never gives, with 7 weights over the length, with 8 a length that is no whole number of blocks.
+    pub fn validate_length(self, length: usize) -> Result<(), Refusal>
+        ensures { number_of result ≡ first_of (refuse (not (is_made self)) 21 ∷ length_number (secret self.distr) length ∷ []) }
     {
         if !is_made(self) {
-            return NEVER_MADE;
+            return Err(Refusal::NeverMade);
         }
         let method = self.method;
-        length_number(method, length)
+        check_length(method, length)
     }
 
-    // 0, or 21 for a sampler that making never gives, 9 for a modulus that is not above the largest magnitude.
-    pub fn validate_modulus(self, modulus: u64) -> u32
-        ensures { result ≡ first_of (refuse (not (is_made self)) 21 ∷ modulus_number (largest (secret self.distr)) modulus ∷ []) }
+    // Refuses with 21 a sampler that making never gives, with 9 a modulus that is not above the largest magnitude.
+    pub fn validate_modulus(self, modulus: u64) -> Result<(), Refusal>
+        ensures { number_of result ≡ first_of (refuse (not (is_made self)) 21 ∷ modulus_number (largest (secret self.distr)) modulus ∷ []) }
     {
         let made = is_made(self);
         let method = self.method;
-        validated_modulus(made, methods::maximum_magnitude(method), modulus)
+        check_modulus_by(made, methods::maximum_magnitude(method), modulus)
     }
 
     // The distribution; of a sampler that making never gives, the one that it holds (the empty sampler holds UniformBinary).
@@ -92,8 +90,8 @@ impl SecretKeySampler {
     }
 
     // What the sampler draws by: its method, with 21 where making never gives the sampler.
-    pub fn prepared(self) -> PreparedMethod
-        ensures { result ≡ tested_method (is_made self) self.method }
+    pub fn prepared(self) -> Result<SamplingMethod, Refusal>
+        ensures { Makes (refuse (not (is_made self)) never_made) self.method result }
     {
         let made = is_made(self);
         let method = self.method;
@@ -107,8 +105,8 @@ pub fn is_made(sampler: SecretKeySampler) -> bool
 {
     let distr = sampler.distr;
     let method = sampler.method;
-    let prepared = prepare::prepare(distr);
-    let again = prepared.method;
-    let same = same_key(method_key(method), method_key(again));
-    (prepared.number == 0) & same
+    match prepare::prepare(distr) {
+        Ok(again) => same_method(method, again),
+        Err(_) => false,
+    }
 }

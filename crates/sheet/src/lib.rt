@@ -12,7 +12,7 @@ ghost use Rattle.distr.specs.Constants.{sheet_words};
 ghost use Rattle.sheet.specs.Sheet.{malformed, sheet_text_as, text_limit, answered, answered_with_skipped};
 ghost use Rattle.sheet.specs.Written.{Written};
 
-use distr::refusal::INVALID_SHEET;
+use distr::refusal::Refusal;
 use little_endian::words::read_words;
 
 // Bytes that hold every answer.
@@ -51,7 +51,7 @@ fn answer_as(sheet: &[u8], text: &mut [u8], skipped: bool) -> usize
         return 0;
     }
     if fields::is_malformed(sheet) {
-        return answer::write_refusal(text, INVALID_SHEET);
+        return answer::write_refusal(text, Refusal::InvalidSheet.number());
     }
     answer_well_formed(sheet, text, skipped)
 }

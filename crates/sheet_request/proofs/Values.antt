@@ -8,7 +8,10 @@ use borrow.Author.Tests.{eqb-false, ne_eqb}
 use lib.Dec.{ltb, eqb}
 use lib.ListN.{length, drop, replicate, length-replicate}
 use lib.IntN.{ℤ, pos}
+use Rattle.std.specs.Prelude.{Result}
 use Rattle.distr.specs.declared.answer.Answer.{Answer}
+use Rattle.distr.specs.declared.refusal.Refusal.{Refusal}
+use Rattle.distr.specs.Refusals.{Makes as Prepares}
 use Rattle.distr.specs.Words.{Read, got, short}
 use Rattle.distr.specs.Constants.{output_limit, output_too_long, out_of_words}
 use Rattle.distr.specs.Encoding.{encode, encode_with}
@@ -21,15 +24,14 @@ use Rattle.draw_laws.proofs.Small.{Enough, refuse-below, first_either, length-be
 use Rattle.draw_laws.proofs.Held.{drawn-held}
 use Rattle.draw_laws.proofs.Sampled.{distribution_number}
 use Rattle.draw_laws.proofs.Writes.{encode_with_lem}
-use Rattle.methods.specs.declared.PreparedMethod.{PreparedMethod}
 use Rattle.methods.specs.declared.SamplingMethod.{SamplingMethod}
 use Rattle.method_draws.specs.Drawing.{prepared_method, method_draw, method_skips}
 use Rattle.method_draws.proofs.Drawing.{prepared-draw, prepared-skips}
-use Rattle.prepared_draws.specs.Drawing.{prepared_draw, residue_numbers, encoded_by}
+use Rattle.prepared_draws.specs.Drawing.{prepared_draw, prepared_skips, residue_numbers, encoded_by}
 use Rattle.prepared_draws.proofs.Calls.{Answered, by-making}
 use Rattle.prepared_draws.proofs.Residues.{asked_below, asked_refuses, encoded_of}
 use Rattle.any_sampler.specs.declared.AnyDistr.{AnyDistr}
-use Rattle.any_sampler.specs.Either.{preparing_any, any_at_once, any_skips}
+use Rattle.any_sampler.specs.Either.{any_number, any_method, any_at_once, any_skips}
 use Rattle.any_sampler.proofs.Drawing.{by_either}
 use Rattle.sheet_request.specs.Request.{as_values}
 
@@ -150,25 +152,26 @@ module _ (q : ℕ) (words : List ℕ) (place : ℕ) (out : List ℤ) where
         values_encoded z ∙ ap (as_values out) (encoded_of no_tables q words place zeros (rw zeros-length few) d z)
 
   -- so they are for a distribution of either kind, which reports what it skips
-  pub any_values : {p : PreparedMethod} (x : AnyDistr) → p ≡ preparing_any x → length out < 2 ^ 64 → {r : Answer} {after : List ℤ}
-      → Answered r after (prepared_draw p place out values_by) (method_skips p.method no_tables (length out) (drop place words))
+  pub any_values : (p : Result SamplingMethod Refusal) (x : AnyDistr) → Prepares (any_number x) (any_method x) p → length out < 2 ^ 64
+      → {r : Answer} {after : List ℤ}
+      → Answered r after (prepared_draw p place out values_by) (prepared_skips p (λ m. method_skips m no_tables (length out) (drop place words)))
       → Answered r after (any_at_once x place out (λ (d : Distr). as_values out (encoded_draw true d no_tables q words place zeros)))
       (any_skips x (λ (d : Distr). skips_of d (length out) no_tables (drop place words)))
-  any_values x e few =
-      by_either no_tables words place x e out values_by (λ d. as_values out (encoded_draw true d no_tables q words place zeros))
+  any_values p x e few =
+      by_either no_tables words place p x e out values_by (λ d. as_values out (encoded_draw true d no_tables q words place zeros))
       (λ m. method_skips m no_tables (length out) (drop place words)) (λ d. skips_of d (length out) no_tables (drop place words))
-      (λ d f. by-making d no_tables words place f out values_by _ (λ m. method_skips m no_tables (length out) (drop place words)) _
+      (λ d f. by-making d no_tables words place p f out values_by _ (λ m. method_skips m no_tables (length out) (drop place words)) _
       (values_of d few) (prepared-skips no_tables (length out) (drop place words) d))
 
-  -- the answers of the draw, as the code tries them
-  module _ (p : PreparedMethod) (accepted : p.number ≡ 0) {j : ℕ} (e : j ≡ first_of (residue_numbers p.method (length out) q)) where
+  -- the answers of the draw by a method, as the code tries them
+  module _ (m : SamplingMethod) {j : ℕ} (e : j ≡ first_of (residue_numbers m (length out) q)) where
     pub values_asked : (j ≡ 0 → ⊥) → {number : ℕ} → number ≡ first_of (past_end (length words) place ∷ too_long (length out) ∷ j ∷ [])
-        → record { number = number; place = place; index = 0; output = out } ≡ prepared_draw p place out values_by
-    unfolding judged values_by
-    values_asked never n = rw (accepted, n, ← e, ne_eqb j 0 never)
+        → record { number = number; place = place; index = 0; output = out } ≡ values_by m
+    unfolding values_by
+    values_asked never n = rw (n, ← e, ne_eqb j 0 never)
 
     pub values-drawn : j ≡ 0 → (r : Answer) {now after : List ℤ}
-        → outcome r now ≡ prepared_draw p place out (λ m. method_draw (λ cs. cs) m no_tables words place out)
-        → after ≡ cond (eqb r.number 0) (residues_of q now) now → outcome r after ≡ prepared_draw p place out values_by
-    unfolding judged values_by
-    values-drawn z r said done = rw (accepted, ← e, z, done) (ap (passed (residues_of q)) (rw accepted at said))
+        → outcome r now ≡ method_draw (λ cs. cs) m no_tables words place out
+        → after ≡ cond (eqb r.number 0) (residues_of q now) now → outcome r after ≡ values_by m
+    unfolding values_by
+    values-drawn z r said done = rw (← e, z, done) (ap (passed (residues_of q)) said)

@@ -10,8 +10,8 @@ ghost use Rattle.sheet_request.specs.Request.{as_values};
 use any_sampler::AnyDistr;
 use distr::answer::{Answer, refused};
 use gaussian_core::encode::magnitude;
-use numbers::draw_number;
-use prepared_draws::encoded::residue_number;
+use numbers::first_refusal;
+use prepared_draws::encoded::check_residues;
 use prepared_draws::signed::sample_signed_to;
 
 // The residue of a coefficient: -m is modulus - m, and zero stays 0. One below -modulus, which number 9 keeps from being drawn, gives 0.
@@ -33,11 +33,8 @@ fn residue(c: i64, modulus: u32) -> i64
 fn encode_all(output: &mut [i64], modulus: u32)
     ensures { output.new ≡ map (λ (c : ℤ). pos (encode modulus c)) output.old }
 {
-    let n = output.len();
-    let mut i = 0;
-    while i < n {
-        output[i] = residue(output[i], modulus);
-        i += 1;
+    for element in output.iter_mut() {
+        *element = residue(*element, modulus);
     }
 }
 
@@ -56,17 +53,15 @@ pub(crate) fn draw_residues(
         (any_skips found (λ (d : Distr). skips_of d (length output.old) no_tables (drop place words.now))) }
 {
     let prepared = found.prepare();
-    let refusal = prepared.number;
-    if refusal != 0 {
-        return refused(refusal, place);
+    let method = match prepared {
+        Ok(method) => method,
+        Err(why) => return refused(why, place),
+    };
+    if let Err(why) = check_residues(method, output.len(), modulus as u64) {
+        let first = first_refusal(words.len(), place, output.len(), why);
+        return refused(first, place);
     }
-    let method = prepared.method;
-    let asked = residue_number(method, output.len(), modulus as u64);
-    if asked != 0 {
-        let number = draw_number(words.len(), place, output.len(), asked);
-        return refused(number, place);
-    }
-    let answer = sample_signed_to(output, prepared, &[], &[], &[], &[], words, place);
+    let answer = sample_signed_to(output, Ok(method), &[], &[], &[], &[], words, place);
     if answer.number == 0 {
         encode_all(output, modulus);
     }

@@ -13,7 +13,7 @@ module _ (modulus : ℕ) where
   unfolding all_below
   below_rest r rs e = (both_true (ltb r modulus) (all_below modulus rs) e).1
 
-  below_append : (xs ys : List ℕ) → all_below modulus (xs ++ ys) ≡ (all_below modulus xs && all_below modulus ys)
+  pub below_append : (xs ys : List ℕ) → all_below modulus (xs ++ ys) ≡ (all_below modulus xs && all_below modulus ys)
   unfolding all_below
   below_append [] ys = refl
   below_append (x ∷ xs) ys = rw (below_append xs ys) (grouped (ltb x modulus) (all_below modulus xs) (all_below modulus ys))
@@ -28,10 +28,6 @@ module _ (modulus : ℕ) where
   below_parts i rs e =
       both_true (all_below modulus (take i rs)) (all_below modulus (drop i rs))
       (sym (below_append (take i rs) (drop i rs)) ∙ ap (all_below modulus) (take-append-drop i rs) ∙ e)
-
-  -- a block
-  pub below-block : (at n : ℕ) (rs : List ℕ) → all_below modulus rs ≡ true → all_below modulus (take n (drop at rs)) ≡ true
-  below-block at n rs e = (below_parts n (drop at rs) (below_parts at rs e).1).0
 
   pub below_at : (rs : List ℕ) (i : ℕ) → all_below modulus rs ≡ true → i < length rs → get_or rs i 0 < modulus
   below_at [] i e h = absurd (omega arith)

@@ -1,12 +1,13 @@
 -- The sums of a block, and of blocks one after the other: what they are, and that they fit.
-use Rattle.std.proofs.Common.{◌≡◌, ℕ, suc, ◌+◌, ◌-◌, ◌*◌, ◌/◌, ◌%◌, ◌^◌, ◌<◌, ◌≤◌, true, List, [], length, get_or, take, drop, sym, refl, ap, ◌∙◌, le_trans, lt_of_le_of_lt, mul-le-mul_right, mod-eq_of_lt, mul-le-mul, mul-zero, mul-add, arith, lit<, lit≤, length-take-le, take_all}
+use Rattle.std.proofs.Common.{◌≡◌, ℕ, suc, ◌+◌, ◌*◌, ◌/◌, ◌%◌, ◌^◌, ◌<◌, ◌≤◌, true, List, [], length, get_or, take, sym, refl, ap, ◌∙◌, le_trans, lt_of_le_of_lt, mul-le-mul_right, mod-eq_of_lt, mul-le-mul, mul-zero, mul-add, arith, lit<, lit≤, length-take-le, ◌++◌, append_assoc, length-append}
 use Rattle.stats.specs.declared.sums.BlockSums.{BlockSums}
 use Rattle.stats.specs.declared.sums.Totals.{Totals}
 use Rattle.stats.specs.declared.wide.Halves.{Halves}
 use Rattle.stats.specs.Centered.{all_below}
 use Rattle.stats.specs.Sums.{value_of, total, above_half, size_of, residue_sums, block_sums, squares_from, TotalsOf, FitsTotals}
-use Rattle.stats.proofs.Totals.{total_more, total-block, total-most}
-use Rattle.stats.proofs.Below.{below_parts}
+use Rattle.stats.proofs.Totals.{total_append, total_more, total-most}
+use Rattle.distr.proofs.Reading.{both_true}
+use Rattle.stats.proofs.Below.{below_append, below_parts}
 use Rattle.stats.proofs.Centering.{at_most-few, size-most}
 use Rattle.stats.proofs.Squares.{squares_from_lem}
 use Rattle.stats.proofs.Carrying.{high-few}
@@ -90,9 +91,6 @@ module _ (modulus : ℕ) (rs : List ℕ) where
             );
       }
 
-  pub summed_all : {i : ℕ} {s : BlockSums} → length rs ≤ i → Summed i s → s ≡ block_sums modulus rs
-  summed_all {i} h w = w.sums ∙ ap (block_sums modulus) (take_all i rs h)
-
   -- the sums of a block fit, and one residue more fits
   pub summed_small : modulus ≤ 2 ^ 53 → all_below modulus rs ≡ true → {i : ℕ} {s : BlockSums} → i ≤ length rs → Summed i s → Small i s
   summed_small m below {i} h w =
@@ -101,21 +99,19 @@ module _ (modulus : ℕ) (rs : List ℕ) where
 -- Blocks one after the other.
 module _ (modulus : ℕ) (rs : List ℕ) where
   -- a block more
-  pub totals_more : {s t : Totals} {b : BlockSums} (at end : ℕ) → at ≤ end → TotalsOf modulus (take at rs) s
-      → b ≡ block_sums modulus (take (end - at) (drop at rs))
+  totals_more : (block : List ℕ) {s t : Totals} {b : BlockSums} → TotalsOf modulus rs s → b ≡ block_sums modulus block
       → value_of t.residues ≡ value_of s.residues + b.residues
       → value_of t.moduli ≡ value_of s.moduli + modulus * b.negatives
-      → value_of t.squares ≡ value_of s.squares + squares_from b → TotalsOf modulus (take end rs) t
+      → value_of t.squares ≡ value_of s.squares + squares_from b → TotalsOf modulus (rs ++ block) t
   unfolding block_sums residue_sums
-  totals_more {s} {t} {b} at end h w e p q r =
-      let block : List ℕ = take (end - at) (drop at rs) in
+  totals_more block {s} {t} {b} w e p q r =
       record {
-        residues = p ∙ rw (w.residues, e, total-block (λ x. x) rs at end h);
+        residues = p ∙ rw (w.residues, e, total_append (λ x. x) rs block);
         moduli =
             q
-            ∙ rw (w.moduli, e, total-block (above_half modulus) rs at end h)
-            (sym (mul-add modulus (total (above_half modulus) (take at rs)) (total (above_half modulus) block)));
-        squares = r ∙ rw (w.squares, e, total-block (λ x. size_of modulus x * size_of modulus x) rs at end h, squares_from_lem modulus block);
+            ∙ rw (w.moduli, e, total_append (above_half modulus) rs block)
+            (sym (mul-add modulus (total (above_half modulus) rs) (total (above_half modulus) block)));
+        squares = r ∙ rw (w.squares, e, total_append (λ x. size_of modulus x * size_of modulus x) rs block, squares_from_lem modulus block);
       }
 
   pub totals_none : {s : Totals} → value_of s.residues ≡ 0 → value_of s.moduli ≡ 0 → value_of s.squares ≡ 0 → TotalsOf modulus [] s
@@ -150,3 +146,35 @@ pub block-moduli : (modulus : ℕ) (rs : List ℕ) → modulus ≤ 2 ^ 53 → al
     → modulus * (block_sums modulus rs).negatives < 2 ^ 64
 block-moduli modulus rs m below n =
     lt_of_le_of_lt (mul-le-mul {m₂ = 1024} m (omega (arith, (block-small modulus m rs below).negatives))) (lit< tt)
+
+-- Residues of which the first are summed, block by block, and `rest` are left.
+pub record Chunked (modulus : ℕ) (rs rest : List ℕ) (s : Totals) : Type 0 where
+  pub done : List ℕ
+  pub parts : rs ≡ done ++ rest
+  pub sums : TotalsOf modulus done s
+
+module _ (modulus : ℕ) (rs : List ℕ) where
+  pub chunked_none : {s : Totals} → value_of s.residues ≡ 0 → value_of s.moduli ≡ 0 → value_of s.squares ≡ 0 → Chunked modulus rs rs s
+  chunked_none p q r = record { done = []; parts = refl; sums = totals_none modulus rs p q r }
+
+  module _ {rest : List ℕ} {s : Totals} (c : Chunked modulus rs rest s) (m : modulus ≤ 2 ^ 53) (below : all_below modulus rs ≡ true) where
+    both : (all_below modulus c.done ≡ true) × (all_below modulus rest ≡ true)
+    both = both_true _ _ (sym (below_append modulus c.done rest) ∙ ap (all_below modulus) (sym c.parts) ∙ below)
+
+    pub chunked_fit : length rs ≤ 65536 → FitsTotals s
+    chunked_fit n = totals_fit modulus c.done m both.0 (omega (arith, ap length c.parts, length-append c.done rest)) c.sums
+
+    -- the next block is cut off
+    module _ (block left : List ℕ) (cut : rest ≡ block ++ left) where
+      pub chunk-below : all_below modulus block ≡ true
+      chunk-below = (both_true _ (all_below modulus left) (sym (below_append modulus block left) ∙ ap (all_below modulus) (sym cut) ∙ both.1)).0
+
+      pub chunked_more : {t : Totals} {b : BlockSums} → b ≡ block_sums modulus block
+          → value_of t.residues ≡ value_of s.residues + b.residues
+          → value_of t.moduli ≡ value_of s.moduli + modulus * b.negatives
+          → value_of t.squares ≡ value_of s.squares + squares_from b → Chunked modulus rs left t
+      chunked_more e p q r = record {
+        done = c.done ++ block;
+        parts = c.parts ∙ ap (λ (l : List ℕ). c.done ++ l) cut ∙ sym (append_assoc c.done block left);
+        sums = totals_more modulus c.done block c.sums e p q r;
+      }

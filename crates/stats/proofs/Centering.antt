@@ -1,5 +1,5 @@
 -- The centered value of a residue: its magnitude, its part of the sum, and whether it is within a limit.
-use Rattle.std.proofs.Common.{◌≡◌, ℕ, suc, ◌+◌, ◌-◌, ◌*◌, ◌/◌, ◌^◌, ◌<◌, ◌≤◌, Bool, true, false, leb, List, [], ◌∷◌, length, pos, ◌+ℤ◌, sym, refl, ap, ◌∙◌, mul-zero, zero-add, mul-one, mul-add, arith, le-ltb, le-leb, leb-false, leb-true}
+use Rattle.std.proofs.Common.{◌≡◌, ℕ, suc, ◌+◌, ◌-◌, ◌*◌, ◌/◌, ◌<◌, ◌≤◌, Bool, true, false, leb, List, [], ◌∷◌, length, pos, ◌+ℤ◌, sym, refl, ap, ◌∙◌, mul-zero, zero-add, mul-one, mul-add, arith, le-ltb, le-leb, leb-false, leb-true}
 use native.Mathlib.Nat.{sub-zero}
 use borrow.Author.Tests.{lt-leb}
 use lib.IntN.{sub_ℕ}
@@ -120,11 +120,3 @@ module _ (modulus : ℕ) where
   within_all limit (r ∷ rs) h below =
       rw (le-leb (size_of modulus r) limit (omega (arith, size-most modulus r (below-first modulus r rs below))))
       (ap suc (within_all limit rs h (below_rest modulus r rs below)) ∙ omega arith)
-
--- the top bit of 2^63 + b − a says whether a is at most b
-pub top_bit : (a b : ℕ) → a ≤ 2 ^ 53 → b ≤ 2 ^ 53 → (2 ^ 63 + b - a) / 2 ^ 63 ≡ at_most a b
-top_bit a b h k = by (side b a)
-  where
-    by : Side b a → (2 ^ 63 + b - a) / 2 ^ 63 ≡ at_most a b
-    by (lower l) = rw (le-leb a b l) (omega arith)
-    by (upper l) = rw (lt-leb a b l) (omega arith)

@@ -1,5 +1,5 @@
 -- Squares by the two parts of a magnitude, 2^26 × upper + lower.
-use Rattle.std.proofs.Common.{◌≡◌, ℕ, ◌+◌, ◌*◌, ◌/◌, ◌%◌, ◌^◌, ◌<◌, ◌≤◌, List, [], ◌∷◌, sym, refl, ap, ◌∙◌, lt_of_le_of_lt, mul_comm, add-mul, mul-le-mul, div-add-mod', mul-add, mul_right_comm, arith, lit<}
+use Rattle.std.proofs.Common.{◌≡◌, ℕ, ◌+◌, ◌*◌, ◌/◌, ◌%◌, ◌^◌, List, [], ◌∷◌, sym, refl, ap, ◌∙◌, mul_comm, add-mul, div-add-mod', mul-add, mul_right_comm, arith}
 use native.Mathlib.Nat.{mul-mul-mul_comm}
 use Rattle.stats.specs.Sums.{total, size_of, residue_sums, block_sums, squares_from}
 
@@ -22,11 +22,3 @@ pub squares_from_lem : (modulus : ℕ) (rs : List ℕ) → total (λ r. size_of 
 unfolding total residue_sums block_sums
 squares_from_lem modulus [] = refl
 squares_from_lem modulus (r ∷ rs) = omega (arith, square_parts (size_of modulus r), squares_from_lem modulus rs)
-
--- a product of numbers of 32 bits
-pub product-fits : {a b : ℕ} → a < 2 ^ 32 → b < 2 ^ 32 → a * b < 2 ^ 64
-product-fits {a} {b} h k =
-    lt_of_le_of_lt (mul-le-mul (le_of_lt-suc h) (le_of_lt-suc k)) (lit< tt)
-  where
-    le_of_lt-suc : {n : ℕ} → n < 2 ^ 32 → n ≤ 4294967295
-    le_of_lt-suc {n} e = omega arith

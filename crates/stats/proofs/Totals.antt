@@ -1,5 +1,5 @@
 -- Sums of a function's values over a list: of a list in two parts, of one element more, and how large they can be.
-use Rattle.std.proofs.Common.{◌≡◌, ℕ, ◌+◌, ◌-◌, ◌*◌, ◌<◌, ◌≤◌, true, List, [], ◌∷◌, ◌++◌, length, get_or, take, drop, ap, ◌∙◌, suc-mul, add-one, arith, take-suc, take-add}
+use Rattle.std.proofs.Common.{◌≡◌, ℕ, ◌+◌, ◌*◌, ◌<◌, ◌≤◌, true, List, [], ◌∷◌, ◌++◌, length, get_or, take, suc-mul, add-one, arith, take-suc}
 use Rattle.stats.specs.Centered.{all_below}
 use Rattle.stats.specs.Sums.{total}
 use Rattle.stats.proofs.Below.{below-first, below_rest}
@@ -14,14 +14,6 @@ module _ (f : ℕ → ℕ) where
   pub total_more : (xs : List ℕ) (i : ℕ) → i < length xs → total f (take (i + 1) xs) ≡ total f (take i xs) + f (get_or xs i 0)
   unfolding total
   total_more xs i h = rw (add-one i, take-suc xs i 0 h, total_append (take i xs) (get_or xs i 0 ∷ [])) (omega arith)
-
-  -- a block more
-  pub total-block : (xs : List ℕ) (at end : ℕ) → at ≤ end → total f (take end xs) ≡ total f (take at xs) + total f (take (end - at) (drop at xs))
-  total-block xs at end h =
-      let parts : end ≡ at + (end - at) = omega arith in
-      ap (λ (n : ℕ). total f (take n xs)) parts
-      ∙ ap (total f) (take-add at (end - at) xs)
-      ∙ total_append (take at xs) (take (end - at) (drop at xs))
 
   -- values of at most `most` for residues below the modulus
   pub total-most : (modulus most : ℕ) (xs : List ℕ) → ((r : ℕ) → r < modulus → f r ≤ most) → all_below modulus xs ≡ true

@@ -1,7 +1,7 @@
 -- Counting the magnitudes within a limit that is below half the modulus.
-use Rattle.std.proofs.Common.{◌≡◌, ℕ, ◌+◌, ◌-◌, ◌/◌, ◌<◌, ◌≤◌, true, List, map, length, get_or, take, set, sym, refl, ap, ◌∙◌, add-one, arith, take_all}
+use Rattle.std.proofs.Common.{◌≡◌, ℕ, ◌+◌, ◌-◌, ◌/◌, ◌<◌, ◌≤◌, true, List, map, length, get_or, take, set, sym, ap, ◌∙◌, add-one, arith, take_all}
 use lib.ListN.{length-map, get_or-map}
-use Rattle.distr.proofs.Writing.{written, written-length, written_more, written_all}
+use Rattle.distr.proofs.Writing.{written, written_more}
 use Rattle.stats.specs.Centered.{centered_all, how_many_within, all_below}
 use Rattle.stats.specs.Sums.{total, at_most, size_of}
 use Rattle.stats.proofs.Totals.{total_more}
@@ -41,13 +41,6 @@ module _ (f : ℕ → ℕ) (limits counts₀ : List ℕ) (same : length counts�
   pub record Listed (i : ℕ) (counts : List ℕ) : Type 0 where
     pub listed : counts ≡ written (map f limits) i counts₀
 
-  pub listed_none : Listed 0 counts₀
-  listed_none = record { listed = refl }
-
-  pub listed_length : {i : ℕ} {counts : List ℕ} → i ≤ length limits → Listed i counts → length counts ≡ length limits
-  listed_length {i} h l =
-      ap length l.listed ∙ written-length (map f limits) counts₀ i (rw length-map h) (rw same h) ∙ same
-
   pub listed_more : {i v : ℕ} {counts : List ℕ} → i < length limits → Listed i counts → v ≡ f (get_or limits i 0)
       → Listed (i + 1) (set counts i v)
   listed_more {i} {v} h l e =
@@ -56,9 +49,3 @@ module _ (f : ℕ → ℕ) (limits counts₀ : List ℕ) (same : length counts�
             rw (l.listed, e ∙ sym (get_or-map f limits i 0), add-one i)
             (written_more (map f limits) counts₀ i (f 0) (rw length-map h) (rw same h));
       }
-
-  pub listed_all : {i : ℕ} {counts : List ℕ} → i ≡ length limits → Listed i counts → counts ≡ map f limits
-  listed_all {i} e l =
-      l.listed
-      ∙ ap (λ (k : ℕ). written (map f limits) k counts₀) (e ∙ sym same)
-      ∙ written_all (map f limits) counts₀ (length-map limits f ∙ sym same)

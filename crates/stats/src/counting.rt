@@ -11,17 +11,13 @@ fn count_within(residues: &[u64], modulus: u64, limit: u64) -> u64
     requires { (length residues.now ≤ output_limit) × (modulus ≤ report_modulus_limit) × (all_below modulus residues.now ≡ true) }
     ensures { result ≡ how_many_within limit (centered_all modulus residues.now) }
 {
-    let n = residues.len();
     if modulus / 2 <= limit {
-        return n as u64;
+        return residues.len() as u64;
     }
     let top = modulus - limit;
     let mut count: u64 = 0;
-    let mut i = 0;
-    while i < n {
-        let residue = residues[i];
-        count += at_most(residue, limit) + at_most(top, residue);
-        i += 1;
+    for residue in residues {
+        count += at_most(*residue, limit) + at_most(top, *residue);
     }
     count
 }
@@ -32,10 +28,7 @@ pub(crate) fn count_limits(residues: &[u64], modulus: u64, limits: &[u64], count
         × (length counts.old ≡ length limits.now) }
     ensures { counts.new ≡ map (λ limit. how_many_within limit (centered_all modulus residues.now)) limits.now }
 {
-    let n = limits.len();
-    let mut i = 0;
-    while i < n {
+    for i in 0..limits.len() {
         counts[i] = count_within(residues, modulus, limits[i]);
-        i += 1;
     }
 }

@@ -8,18 +8,17 @@ mod wide;
 
 ghost use Rattle.std.specs.Prelude.{◌≡◌};
 ghost use Rattle.std.proofs.Math.IntN.{sub_ℕ};
+ghost use Rattle.distr.specs.Refusals.{number, number_of};
 ghost use Rattle.stats.specs.Report.{report_number, exact_report, refused_report, report};
 ghost use Rattle.stats.specs.Sums.{value_of};
 
 use distr::limits::{MAX_EXACT_F64_INTEGER, MAX_OUTPUT};
-use distr::refusal::{
-    COUNTS_LENGTH_MISMATCH, MODULUS_OUT_OF_RANGE, OUTPUT_TOO_LONG, RESIDUE_NOT_CANONICAL,
-};
+use distr::refusal::Refusal;
 use sums::Totals;
 
 // A report: its number (0 is success), and the two sums in halves of 64 bits. The sum of the centered values is
 // (-1)^negative * (sum_high * 2^64 + sum_low), that of their squares squares_high * 2^64 + squares_low.
-#[derive(Clone, Copy)]
+#[derive(Clone, Copy, Debug, PartialEq, Eq)]
 pub struct Report {
     pub number: u32,
     pub negative: bool,
@@ -30,11 +29,11 @@ pub struct Report {
 }
 
 // A refused report: its number, and zero sums.
-fn refused(number: u32) -> Report
-    ensures { result ≡ refused_report number }
+fn refused(why: Refusal) -> Report
+    ensures { result ≡ refused_report (number why) }
 {
     Report {
-        number,
+        number: why.number(),
         negative: false,
         sum_high: 0,
         sum_low: 0,
@@ -44,22 +43,28 @@ fn refused(number: u32) -> Report
 }
 
 // What refuses a report: 6, 24, 25, then 26.
-fn report_number(residues: &[u64], modulus: u64, limit_count: usize, count_length: usize) -> u32
-    ensures { result ≡ report_number residues.now modulus limit_count count_length }
+#[tactic(auto, unfolding(crate::specs::Report::report_number, distr::specs::Numbers::first_of))]
+fn check_report(
+    residues: &[u64],
+    modulus: u64,
+    limit_count: usize,
+    count_length: usize,
+) -> Result<(), Refusal>
+    ensures { number_of result ≡ report_number residues.now modulus limit_count count_length }
 {
     if MAX_OUTPUT < residues.len() {
-        return OUTPUT_TOO_LONG;
+        return Err(Refusal::OutputTooLong);
     }
     if (modulus == 0) | (MAX_EXACT_F64_INTEGER < modulus) {
-        return MODULUS_OUT_OF_RANGE;
+        return Err(Refusal::ModulusOutOfRange);
     }
     if count_length != limit_count {
-        return COUNTS_LENGTH_MISMATCH;
+        return Err(Refusal::CountsLengthMismatch);
     }
     if !sums::all_below(residues, modulus) {
-        return RESIDUE_NOT_CANONICAL;
+        return Err(Refusal::ResidueNotCanonical);
     }
-    0
+    Ok(())
 }
 
 // The report of sums. The centered values' sum is the residues' less the modulus for each negative one, whichever of the two is larger.
@@ -86,9 +91,8 @@ fn exact(totals: Totals) -> Report
 pub fn residue_report(residues: &[u64], modulus: u64, limits: &[u64], counts: &mut [u64]) -> Report
     ensures { (result, counts.new) ≡ report residues.now modulus limits.now counts.old }
 {
-    let number = report_number(residues, modulus, limits.len(), counts.len());
-    if number != 0 {
-        return refused(number);
+    if let Err(why) = check_report(residues, modulus, limits.len(), counts.len()) {
+        return refused(why);
     }
     counting::count_limits(residues, modulus, limits, counts);
     exact(sums::sum_residues(residues, modulus))

@@ -12,7 +12,7 @@ const BLOCK: usize = 1024;
 
 // What a block's residues add up to: the residues, how many of them are above half the modulus, and the products of the two parts of each
 // magnitude.
-#[derive(Clone, Copy)]
+#[derive(Clone, Copy, Debug, PartialEq, Eq)]
 pub(crate) struct BlockSums {
     pub residues: u64,
     pub negatives: u64,
@@ -22,7 +22,7 @@ pub(crate) struct BlockSums {
 }
 
 // The sums over all residues: of the residues, of the modulus once for each residue above half of it, and of the squares.
-#[derive(Clone, Copy)]
+#[derive(Clone, Copy, Debug, PartialEq, Eq)]
 pub(crate) struct Totals {
     pub residues: Halves,
     pub moduli: Halves,
@@ -33,12 +33,9 @@ pub(crate) struct Totals {
 pub(crate) fn all_below(residues: &[u64], modulus: u64) -> bool
     ensures { result ≡ all_below modulus residues.now }
 {
-    let n = residues.len();
     let mut ok = true;
-    let mut i = 0;
-    while i < n {
-        ok = ok & (residues[i] < modulus);
-        i += 1;
+    for residue in residues {
+        ok = ok & (*residue < modulus);
     }
     ok
 }
@@ -94,21 +91,18 @@ fn block_sums(block: &[u64], modulus: u64) -> BlockSums
     requires { (length block.now ≤ 1024) × (modulus ≤ report_modulus_limit) × (all_below modulus block.now ≡ true) }
     ensures { result ≡ block_sums modulus block.now }
 {
-    let n = block.len();
     let mut residues: u64 = 0;
     let mut negatives: u64 = 0;
     let mut upper: u64 = 0;
     let mut cross: u64 = 0;
     let mut lower: u64 = 0;
-    let mut i = 0;
-    while i < n {
-        let one = sums_of(modulus, block[i]);
+    for residue in block {
+        let one = sums_of(modulus, *residue);
         residues += one.residues;
         negatives += one.negatives;
         upper += one.upper;
         cross += one.cross;
         lower += one.lower;
-        i += 1;
     }
     BlockSums {
         residues,
@@ -175,30 +169,14 @@ fn with_block(totals: Totals, block: BlockSums, modulus: u64) -> Totals
     }
 }
 
-// Where the block that starts at `at` ends.
-fn block_end(at: usize, n: usize) -> usize
-    requires { at < n }
-    ensures { (at < result) × (result ≤ n) × (result ≤ at + 1024) }
-{
-    if n - at <= BLOCK {
-        return n;
-    }
-    at + BLOCK
-}
-
 // The sums over all residues, a block after the other.
 pub(crate) fn sum_residues(residues: &[u64], modulus: u64) -> Totals
     requires { (length residues.now ≤ output_limit) × (modulus ≤ report_modulus_limit) × (all_below modulus residues.now ≡ true) }
     ensures { TotalsOf modulus residues.now result }
 {
-    let n = residues.len();
     let mut totals = no_totals();
-    let mut at = 0;
-    while at < n {
-        let end = block_end(at, n);
-        let block = block_sums(&residues[at..end], modulus);
-        totals = with_block(totals, block, modulus);
-        at = end;
+    for block in residues.chunks(BLOCK) {
+        totals = with_block(totals, block_sums(block, modulus), modulus);
     }
     totals
 }

@@ -1,5 +1,5 @@
 -- A prepared ternary sampler: what the thresholds prepare, and the rule that it draws by.
-use Rattle.std.specs.Prelude.{ℕ, ◌+◌, ◌^◌, cond, true, false, List, ltb, eqb, length, ℤ, pos}
+use Rattle.std.specs.Prelude.{ℕ, ◌+◌, ◌^◌, Bool, cond, true, false, List, ltb, eqb, length, ℤ, pos}
 use mir.Val.{bool_byte}
 use Rattle.distr.specs.Rule.{Rule, constant, wide_words}
 use Rattle.distr.specs.Packed.{minus_one}
@@ -10,6 +10,8 @@ use Rattle.ternary.specs.declared.ternary.TernaryValue.TheVariants.{MinusOne, Ze
 use Rattle.ternary.specs.declared.ternary.TernaryEnds.{TernaryEnds}
 use Rattle.ternary.specs.declared.ternary.TernaryEnds.TheVariants.{Constant, Nonzero, General}
 use Rattle.ternary.specs.declared.ternary.Plan.{Plan}
+use Rattle.ternary.specs.declared.ternary.Plan.TheVariants as plan
+use Rattle.ternary.specs.declared.ternary.WordPlan.{WordPlan}
 
 abbrev pub value_of : TernaryValue → ℤ
 value_of MinusOne = minus_one
@@ -34,13 +36,18 @@ sampler_of N P =
     (cond (eqb P (2 ^ 64)) (Constant One)
     (cond (eqb (nonzero_end N P) (2 ^ 64)) (Nonzero N) (General N (nonzero_end N P)))))
 
--- What a sampler does, whatever the type of its output: whether it reads, what it gives where not, and the two ends. Where no word gives 0
--- none is below the second end, and 1 stands above it.
+-- What a sampler does, whatever the type of its output: one value throughout, or what stands above the first end, and the two ends. Where no
+-- word gives 0 none is below the second end, and 1 stands above it.
 unfoldable pub plan_of : TernaryEnds → Plan
-plan_of (Constant v) = record { reads = false; constant = v; above = 0; first_end = 0; second_end = 0 }
-plan_of (Nonzero N) = record { reads = true; constant = Zero; above = 1; first_end = N; second_end = 0 }
-plan_of (General N E) = record { reads = true; constant = Zero; above = 0; first_end = N; second_end = E }
+plan_of (Constant v) = plan.Constant v
+plan_of (Nonzero N) = plan.Read (record { above = 1; first_end = N; second_end = 0 })
+plan_of (General N E) = plan.Read (record { above = 0; first_end = N; second_end = E })
+
+-- Whether it reads words.
+abbrev pub reads : Plan → Bool
+reads (plan.Constant v) = false
+reads (plan.Read p) = true
 
 -- What a plan gives for a 64-bit word.
-unfoldable pub plan_value : Plan → ℕ → ℤ
+unfoldable pub plan_value : WordPlan → ℕ → ℤ
 plan_value p w = cond (ltb w p.first_end) minus_one (pos (p.above + bool_byte (ltb w p.second_end)))

@@ -1,12 +1,12 @@
 // `Ternary`: the ends of two thresholds, and what they ask for.
 ghost use Rattle.std.specs.Prelude.{◌≡◌};
 ghost use Rattle.words.specs.Reading.{threshold_value};
-ghost use Rattle.ternary.specs.Sampler.{sampler_of, plan_of};
+ghost use Rattle.ternary.specs.Sampler.{sampler_of, reads, plan_of};
 
 use distr::threshold::Threshold;
 
 // A value that needs no words.
-#[derive(Clone, Copy)]
+#[derive(Clone, Copy, Debug, PartialEq, Eq)]
 pub enum TernaryValue {
     MinusOne,
     Zero,
@@ -14,7 +14,7 @@ pub enum TernaryValue {
 }
 
 // Cumulative ends of three outcomes, the Rust's `TernarySampler`. The ends that a u64 cannot hold are variants of their own.
-#[derive(Clone, Copy)]
+#[derive(Clone, Copy, Debug, PartialEq, Eq)]
 pub enum TernaryEnds {
     // One value for every coefficient, and no word read.
     Constant(TernaryValue),
@@ -24,47 +24,53 @@ pub enum TernaryEnds {
     General { negative_end: u64, nonzero_end: u64 },
 }
 
-// What the ends ask for, whatever the type of the output. Where it reads words, one below first_end gives -1, another `above`, and 1 more
-// where it is below second_end; where it reads none, every coefficient is the constant.
-#[derive(Clone, Copy)]
-pub struct Plan {
-    pub reads: bool,
-    pub constant: TernaryValue,
+// What a draw that reads gives for a 64-bit word: -1 below first_end, else `above`, and 1 more where the word is below second_end.
+#[derive(Clone, Copy, Debug, PartialEq, Eq)]
+pub struct WordPlan {
     pub above: u32,
     pub first_end: u64,
     pub second_end: u64,
 }
 
+// What the ends ask for, whatever the type of the output.
+#[derive(Clone, Copy, Debug, PartialEq, Eq)]
+pub enum Plan {
+    // One value for every coefficient, and no word read.
+    Constant(TernaryValue),
+    // A 64-bit word for each coefficient.
+    Read(WordPlan),
+}
+
+impl Plan {
+    // Whether the draw reads words.
+    pub(crate) fn reads(self) -> bool
+        ensures { result ≡ reads self }
+    {
+        matches!(self, Plan::Read(_))
+    }
+}
+
 // The plan of each kind of ends. Where no word gives 0 none is below the second end, and those above the first give 1 all the same: so one
 // sum serves both kinds, and the loop has nothing to branch on.
+#[tactic(auto, unfolding(crate::specs::Sampler::plan_of))]
 pub fn plan_of(ends: TernaryEnds) -> Plan
     ensures { result ≡ plan_of ends }
 {
     match ends {
-        TernaryEnds::Constant(value) => Plan {
-            reads: false,
-            constant: value,
-            above: 0,
-            first_end: 0,
-            second_end: 0,
-        },
-        TernaryEnds::Nonzero { negative_end } => Plan {
-            reads: true,
-            constant: TernaryValue::Zero,
+        TernaryEnds::Constant(value) => Plan::Constant(value),
+        TernaryEnds::Nonzero { negative_end } => Plan::Read(WordPlan {
             above: 1,
             first_end: negative_end,
             second_end: 0,
-        },
+        }),
         TernaryEnds::General {
             negative_end,
             nonzero_end,
-        } => Plan {
-            reads: true,
-            constant: TernaryValue::Zero,
+        } => Plan::Read(WordPlan {
             above: 0,
             first_end: negative_end,
             second_end: nonzero_end,
-        },
+        }),
     }
 }
 

@@ -32,25 +32,16 @@ fn write_page(page: &mut [u8])
     requires { length page.old ≡ 2430 }
     ensures { page.new ≡ page_text }
 {
-    let mut byte = 0;
-    while byte < 243 {
+    for byte in 0..243 {
         write_line(&mut page[10 * byte..10 * byte + 10], byte);
-        byte += 1;
     }
-}
-
-// Room for the page. The `ensures` gives the length, which lending the array needs.
-fn page_room() -> [u8; 2430]
-    ensures { 2430 ≡ length result }
-{
-    [0; 2430]
 }
 
 // The whole page.
 pub(crate) fn page() -> [u8; 2430]
     ensures { result ≡ page_text }
 {
-    let mut page = page_room();
+    let mut page = [0; 2430];
     write_page(&mut page);
     page
 }

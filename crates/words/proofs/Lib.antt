@@ -1,3 +1,4 @@
 pub mod Places
 pub mod Runs
 pub mod Taking
+pub mod Choosing

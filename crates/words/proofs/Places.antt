@@ -1,21 +1,23 @@
 -- What is read at a place of the words, and the place after it.
 use mathlib.Core.Path.{◌≡◌, refl, ap}
-use mathlib.Core.Bool.{Bool, true, false, cond}
+use mathlib.Core.Bool.{Bool, false}
 use mathlib.Core.List.{List, [], ◌∷◌}
+use Rattle.std.specs.Prelude.{Option, Some, None}
 use Prim.Native.Nat.{ℕ, suc, ◌+◌, ◌-◌, ◌*◌, ◌/◌, ◌^◌, ◌<◌, ◌≤◌}
 use native.Mathlib.Nat.{ne_of_lt}
+use native.Mathlib.Numerals.{add-one, add-two}
 use native.Mathlib.Omega.{arith}
 use lib.Dec.{leb, ltb}
 use borrow.Author.Tests.{le-ltb, ne_eqb}
 use lib.ListN.{length, get_or, take, drop, length-drop, drop_of_length-le}
 use lib.Seq.{drop-cons}
 use borrow.Author.Rules.{part_to_end}
+use Rattle.std.proofs.lemmas.List.{get_or_read}
 use Rattle.distr.specs.Words.{Read, got, short, map_read, word, wide, choose, coin, chance}
+use Rattle.distr.specs.declared.threshold.Threshold.{Threshold}
 use Rattle.words.specs.declared.Taken.{Taken}
-use Rattle.words.specs.declared.Taken.TheVariants.{Got, Short}
 use Rattle.words.specs.declared.Told.{Told}
-use Rattle.words.specs.declared.Told.TheVariants.{Yes, No, Short as NotTold}
-use Rattle.words.specs.Reading.{taken, told}
+use Rattle.words.specs.Reading.{taken, told, told_chance}
 
 wide-few : (ws : List ℕ) → length ws < 2 → wide ws ≡ short
 unfolding wide
@@ -23,25 +25,42 @@ wide-few [] h = refl
 wide-few (w ∷ []) h = refl
 wide-few (w ∷ x ∷ ws) h = absurd (omega arith)
 
--- what a threshold says of the 64-bit word that was taken
-abbrev pub verdict : ℕ → Taken → Told
-verdict below (Got v i s) = cond (ltb v below) (Yes i) (No i)
-verdict below Short = NotTold
+-- a test of the value that was taken is told with its place
+abbrev pub tested : (ℕ → Bool) → Option Taken → Option Told
+tested test (Some t) = Some (record { yes = test t.value; place = t.place })
+tested test None = None
 
-verdict-told : (count below : ℕ) (r : Read ℕ) → verdict below (taken count 0 r) ≡ told count (map_read (λ w. ltb w below) r)
+pub tested_told : (count skipped : ℕ) (test : ℕ → Bool) (r : Read ℕ) → tested test (taken count skipped r) ≡ told count (map_read test r)
 unfolding taken told map_read
-verdict-told count below (got v rest) = by_test (ltb v below)
-  where
-    by_test : (b : Bool) → cond b (Yes (count - length rest)) (No (count - length rest)) ≡ told count (got b rest)
-    by_test true = refl
-    by_test false = refl
-verdict-told count below short = refl
+tested_told count skipped test (got v rest) = refl
+tested_told count skipped test short = refl
 
--- a threshold that is not full reads a 64-bit word
-pub chance-told : (count below : ℕ) (ws : List ℕ) (t : Taken) → below < 2 ^ 64 → t ≡ taken count 0 (wide ws)
-    → verdict below t ≡ told count (chance below ws)
-unfolding chance
-chance-told count below ws t h e = rw (ne_eqb below (2 ^ 64) (ne_of_lt h), e) (verdict-told count below (wide ws))
+-- a coin tests a word
+coin_told : (count : ℕ) (ws : List ℕ) {t : Option Taken} → t ≡ taken count 0 (word ws) → tested (λ w. leb (2 ^ 31) w) t ≡ told count (coin ws)
+unfolding coin
+coin_told count ws e = rw e (tested_told count 0 (λ w. leb (2 ^ 31) w) (word ws))
+
+pub coin_some : (count : ℕ) (ws : List ℕ) (t : Taken) → Some t ≡ taken count 0 (word ws)
+    → Some (record { yes = leb (2 ^ 31) t.value; place = t.place }) ≡ told count (coin ws)
+coin_some count ws t e = coin_told count ws e
+
+pub coin_none : (count : ℕ) (ws : List ℕ) → None ≡ taken count 0 (word ws) → None ≡ told count (coin ws)
+coin_none count ws e = coin_told count ws e
+
+-- a threshold that is not full tests a 64-bit word
+chance_told : (words : List ℕ) (place : ℕ) (t : Threshold) {r : Option Taken} → t.full ≡ false → t.below < 2 ^ 64 → r ≡ taken (length words) 0 (wide (drop place words))
+    → tested (λ w. ltb w t.below) r ≡ told_chance words place t
+unfolding told_chance chance
+chance_told words place t part h e =
+    rw (part, ne_eqb t.below (2 ^ 64) (ne_of_lt h), e) (tested_told (length words) 0 (λ w. ltb w t.below) (wide (drop place words)))
+
+pub chance_some : (words : List ℕ) (place : ℕ) (t : Threshold) (r : Taken) → t.full ≡ false → t.below < 2 ^ 64 → Some r ≡ taken (length words) 0 (wide (drop place words))
+    → Some (record { yes = ltb r.value t.below; place = r.place }) ≡ told_chance words place t
+chance_some words place t r part h e = chance_told words place t part h e
+
+pub chance_none : (words : List ℕ) (place : ℕ) (t : Threshold) → t.full ≡ false → t.below < 2 ^ 64 → None ≡ taken (length words) 0 (wide (drop place words))
+    → None ≡ told_chance words place t
+chance_none words place t part h e = chance_told words place t part h e
 
 -- no word is below 0, so a choice that no word can give reads them all
 pub choose_none : (k : ℕ) (ws : List ℕ) → k * (2 ^ 32 / k) ≡ 0 → choose k ws ≡ short
@@ -83,27 +102,28 @@ module _ (ws : List ℕ) where
   unfolding coin map_read
   coin-there i b h e = rw (word-there i h, e)
 
-  pub coin_missing : (i : ℕ) → length ws ≤ i → coin (drop i ws) ≡ short
-  unfolding coin map_read
-  coin_missing i h = rw (word_missing i h)
-
   -- a reading that leaves the words from i on hands back the place i
-  pub taken_at : {s : ℕ} (i v : ℕ) (r : Read ℕ) → i ≤ length ws → r ≡ got v (drop i ws) → Got v i s ≡ taken (length ws) s r
+  pub taken_at : {s : ℕ} (i v : ℕ) (r : Read ℕ) → i ≤ length ws → r ≡ got v (drop i ws)
+      → Some (record { value = v; place = i; skipped = s }) ≡ taken (length ws) s r
   unfolding taken
   taken_at i v r h e = rw (e, place_of i h)
 
-  pub taken_none : (s : ℕ) (r : Read ℕ) → r ≡ short → Short ≡ taken (length ws) s r
+  pub taken_none : (s : ℕ) (r : Read ℕ) → r ≡ short → None ≡ taken (length ws) s r
   unfolding taken
   taken_none s r e = rw e
 
-  pub told_yes : (i : ℕ) (r : Read Bool) → i ≤ length ws → r ≡ got true (drop i ws) → Yes i ≡ told (length ws) r
-  unfolding told
-  told_yes i r h e = rw (e, place_of i h)
+  -- what the functions hand back where the words are there, and where not
+  pub next_some : (i w : ℕ) → i < length ws → w ≡ get_or ws i w → Some (record { value = w; place = i + 1; skipped = 0 }) ≡ taken (length ws) 0 (word (drop i ws))
+  next_some i w h e =
+      let here = get_or_read ws i w h e 0 in
+      taken_at (i + 1) w (word (drop i ws)) (omega arith) (rw (add-one i, here) (word-there i h))
 
-  pub told_no : (i : ℕ) (r : Read Bool) → i ≤ length ws → r ≡ got false (drop i ws) → No i ≡ told (length ws) r
-  unfolding told
-  told_no i r h e = rw (e, place_of i h)
+  pub next_none : (i : ℕ) → length ws ≤ i → None ≡ taken (length ws) 0 (word (drop i ws))
+  next_none i h = taken_none 0 (word (drop i ws)) (word_missing i h)
 
-  pub told_none : (r : Read Bool) → r ≡ short → NotTold ≡ told (length ws) r
-  unfolding told
-  told_none r e = rw e
+  pub wide_some : (i w : ℕ) → suc i < length ws → w ≡ get_or ws i 0 + get_or ws (suc i) 0 * 2 ^ 32
+      → Some (record { value = w; place = i + 2; skipped = 0 }) ≡ taken (length ws) 0 (wide (drop i ws))
+  wide_some i w h e = taken_at (i + 2) w (wide (drop i ws)) (omega arith) (rw (add-two i, e) (wide-there i h))
+
+  pub wide_none : (i : ℕ) → length ws ≤ suc i → None ≡ taken (length ws) 0 (wide (drop i ws))
+  wide_none i h = taken_none 0 (wide (drop i ws)) (wide_missing i h)

@@ -1,5 +1,5 @@
 // An inner crate of the library primus_distr: lent words in place of a random source. Each function reads from a place of the words and
-// hands back the value with the place after it, and a choice also how many words it passed over.
+// hands back the value with the place after it, and a choice also how many words it passed over; or nothing, where a word is missing.
 #![tactic(auto)]
 
 ghost use Rattle.std.specs.Prelude.{◌≡◌, ◌+◌, ◌*◌, ◌%◌, ◌^◌, ◌<◌, length, drop};
@@ -10,39 +10,31 @@ ghost use Rattle.words.specs.Reading.{taken, told, told_chance};
 use distr::threshold::Threshold;
 
 // A value, the place after the words that gave it, and how many words were passed over before them.
-#[derive(Clone, Copy)]
-pub enum Taken {
-    Got {
-        value: u64,
-        place: usize,
-        skipped: usize,
-    },
-    Short,
+#[derive(Clone, Copy, Debug, PartialEq, Eq)]
+pub struct Taken {
+    pub value: u64,
+    pub place: usize,
+    pub skipped: usize,
 }
 
 // A yes or a no, and the place after the words that gave it.
-#[derive(Clone, Copy)]
-pub enum Told {
-    Yes { place: usize },
-    No { place: usize },
-    Short,
+#[derive(Clone, Copy, Debug, PartialEq, Eq)]
+pub struct Told {
+    pub yes: bool,
+    pub place: usize,
 }
 
 // The next word.
-pub fn next_u32(words: &[u32], place: usize) -> Taken
+#[tactic(auto, using(crate::proofs::Places::next_some, crate::proofs::Places::next_none))]
+pub fn next_u32(words: &[u32], place: usize) -> Option<Taken>
     ensures { result ≡ taken (length words.now) 0 (word (drop place words.now)) }
 {
-    if place < words.len() {
-        let value = words[place] as u64;
-        let next = place + 1;
-        Taken::Got {
-            value,
-            place: next,
-            skipped: 0,
-        }
-    } else {
-        Taken::Short
-    }
+    let value = *words.get(place)? as u64;
+    Some(Taken {
+        value,
+        place: place + 1,
+        skipped: 0,
+    })
 }
 
 // Two words as one of 64 bits, low half first.
@@ -53,21 +45,19 @@ pub fn wide_word(low: u32, high: u32) -> u64
 }
 
 // The next two words as one of 64 bits, low half first.
-pub fn next_u64(words: &[u32], place: usize) -> Taken
+#[tactic(auto, using(crate::proofs::Places::wide_some, crate::proofs::Places::wide_none))]
+pub fn next_u64(words: &[u32], place: usize) -> Option<Taken>
     ensures { result ≡ taken (length words.now) 0 (wide (drop place words.now)) }
 {
     let n = words.len();
-    if n < 2 {
-        return Taken::Short;
+    if n < 2 || n - 2 < place {
+        return None;
     }
-    if n - 2 < place {
-        return Taken::Short;
-    }
-    Taken::Got {
+    Some(Taken {
         value: wide_word(words[place], words[place + 1]),
         place: place + 2,
         skipped: 0,
-    }
+    })
 }
 
 // What a word leaves on division by k. Where k fits a word the division is one of 32 bits.
@@ -83,70 +73,53 @@ fn remainder(word: u32, k: u64) -> u32
 }
 
 // A choice among k. A word w is skipped where its run of k, from w - w % k on, does not end at 2^32 or below: one division for each word.
-pub fn uniform_below(words: &[u32], place: usize, k: u64) -> Taken
+// The place after a word is made before the word is judged, which is faster.
+#[tactic(auto, using(crate::proofs::Choosing::same_first, crate::proofs::Choosing::none_fits, crate::proofs::Choosing::too_many, crate::proofs::Choosing::same_last, crate::proofs::Choosing::same_taken, crate::proofs::Choosing::same_next))]
+pub fn uniform_below(words: &[u32], place: usize, k: u64) -> Option<Taken>
     ensures { result ≡ taken (length words.now) (passed_over k (drop place words.now)) (choose k (drop place words.now)) }
 {
-    if k == 0 {
-        return Taken::Short;
-    }
-    if 0x1_0000_0000 < k {
-        return Taken::Short;
+    if k == 0 || 0x1_0000_0000 < k {
+        return None;
     }
     let last = 0x1_0000_0000 - k;
-    let mut i = place;
-    while i < words.len() {
+    for i in place..words.len() {
         let w = words[i];
         let r = remainder(w, k);
-        i += 1;
+        let next = i + 1;
         if (w - r) as u64 <= last {
-            let skipped = i - place - 1;
-            return Taken::Got {
+            return Some(Taken {
                 value: r as u64,
-                place: i,
-                skipped,
-            };
+                place: next,
+                skipped: i - place,
+            });
         }
     }
-    Taken::Short
+    None
 }
 
 // A coin: yes for a word of 2^31 or more.
-#[tactic(auto, unfolding(crate::specs::Reading::told, distr::specs::Words::coin, distr::specs::Words::word, distr::specs::Words::map_read))]
-pub fn random_bool(words: &[u32], place: usize) -> Told
+#[tactic(auto, using(crate::proofs::Places::coin_some, crate::proofs::Places::coin_none))]
+pub fn random_bool(words: &[u32], place: usize) -> Option<Told>
     ensures { result ≡ told (length words.now) (coin (drop place words.now)) }
 {
-    if place < words.len() {
-        if 0x8000_0000 <= words[place] {
-            Told::Yes { place: place + 1 }
-        } else {
-            Told::No { place: place + 1 }
-        }
-    } else {
-        Told::Short
-    }
+    let word = next_u32(words, place)?;
+    Some(Told {
+        yes: 0x8000_0000 <= word.value,
+        place: word.place,
+    })
 }
 
 // Yes for a 64-bit word below the threshold. The full threshold says yes and hands back the same place, also one past the end.
-pub fn bernoulli(words: &[u32], place: usize, threshold: Threshold) -> Told
+#[tactic(auto, using(crate::proofs::Places::chance_some, crate::proofs::Places::chance_none), unfolding(crate::specs::Reading::told_chance))]
+pub fn bernoulli(words: &[u32], place: usize, threshold: Threshold) -> Option<Told>
     ensures { result ≡ told_chance words.now place threshold }
 {
-    let full = threshold.full;
-    let below = threshold.below;
-    if full {
-        return Told::Yes { place };
+    if threshold.full {
+        return Some(Told { yes: true, place });
     }
-    match next_u64(words, place) {
-        Taken::Got {
-            value,
-            place: after,
-            skipped: _,
-        } => {
-            if value < below {
-                Told::Yes { place: after }
-            } else {
-                Told::No { place: after }
-            }
-        }
-        Taken::Short => Told::Short,
-    }
+    let word = next_u64(words, place)?;
+    Some(Told {
+        yes: word.value < threshold.below,
+        place: word.place,
+    })
 }

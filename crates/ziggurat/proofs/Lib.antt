@@ -3,7 +3,6 @@ pub mod Floats
 pub mod LayerTables
 pub mod Trying
 pub mod Proposing
-pub mod Attempting
 pub mod Passing
 pub mod ZeroThreshold
 pub mod Filling

@@ -1,7 +1,7 @@
 -- Whether a proposal passes, case by case: inside the layer above, zero, and on the edge; and how many words each case reads.
 use mathlib.Core.Path.{◌≡◌}
 use mathlib.Core.Bool.{Bool, true, false, cond}
-use mathlib.Core.List.{List, []}
+use mathlib.Core.List.{List}
 use Prim.Native.Nat.{ℕ, suc, ◌+◌, ◌-◌, ◌*◌, ◌^◌, ◌<◌, ◌≤◌}
 use native.Mathlib.Nat.{ne_of_lt, add-zero}
 use native.Mathlib.Numerals.{add-one, add-two}
@@ -26,7 +26,7 @@ use Rattle.ziggurat.proofs.LayerTables.{inner-small, magnitude-there, height-the
 use Rattle.ziggurat.proofs.Floats.{float_le}
 
 -- a layer as it is read out of the tables
-pub layer_read : (endpoints : List ℕ) (heights : List Float) (i : ℕ) (top : Float) → 0 < i → i < length heights
+pub layer_read : (endpoints : List ℕ) (heights curve : List Float) (i : ℕ) (top : Float) → 0 < i → i < length heights
     → top ≡ cond (eqb i 1) (literal 1 1) (get_or heights (i - 1) nan)
     → record {
       left = float (get_or endpoints (i - 1) 0);
@@ -34,8 +34,8 @@ pub layer_read : (endpoints : List ℕ) (heights : List Float) (i : ℕ) (top : 
       above = get_or heights (i - 1) nan;
       below = get_or heights i nan;
       top = top;
-    } ≡ layer_at (tables endpoints heights []) i
-layer_read endpoints heights i top some there start =
+    } ≡ layer_at (tables endpoints heights curve) i
+layer_read endpoints heights curve i top some there start =
     rw (get_d_there heights i nan (literal 0 1) there, start, get_d_there heights (i - 1) nan (literal 0 1) (omega arith))
 
 -- the words that the judging reads: one on the edge; for zero two, none by the full threshold
@@ -48,20 +48,20 @@ module _ (k m : ℕ) where
   unfolding edge_words
   full_words e f = rw (e, f)
 
-  pub zero-words : m ≡ 0 → k < 2 ^ 64 → edge_words k m ≡ 2
+  pub zero_words : m ≡ 0 → k < 2 ^ 64 → edge_words k m ≡ 2
   unfolding edge_words
-  zero-words e h = rw (e, ne_eqb k (2 ^ 64) (ne_of_lt h))
+  zero_words e h = rw (e, ne_eqb k (2 ^ 64) (ne_of_lt h))
 
 -- so many are there: those of zero where its threshold is not full, and the one of the edge
 module _ (z : Threshold) (m place : ℕ) (ws : List ℕ) (there : place + edge_words (threshold_value z) m ≤ length ws) where
   pub both_there : m ≡ 0 → z.full ≡ false → z.below < 2 ^ 64 → place + 1 < length ws
-  both_there e f h = omega (arith, zero-words (threshold_value z) m e (rw f h))
+  both_there e f h = omega (arith, zero_words (threshold_value z) m e (rw f h))
 
-  pub low-there : m ≡ 0 → z.full ≡ false → z.below < 2 ^ 64 → place < length ws
-  low-there e f h = omega (arith, both_there e f h)
+  pub low_there : m ≡ 0 → z.full ≡ false → z.below < 2 ^ 64 → place < length ws
+  low_there e f h = omega (arith, both_there e f h)
 
-  pub one-there : (m ≡ 0 → ⊥) → place < length ws
-  one-there some = omega (arith, edge_word (threshold_value z) m some)
+  pub one_there : (m ≡ 0 → ⊥) → place < length ws
+  one_there some = omega (arith, edge_word (threshold_value z) m some)
 
   -- the judging at the edge by them: zero by its threshold, another by the test on its layer
   module _ (deviation : Float) (t : Layers) (i : ℕ) (same : threshold_value z ≡ zero_threshold t) where
@@ -77,7 +77,7 @@ module _ (z : Threshold) (m place : ℕ) (ws : List ℕ) (there : place + edge_w
     unfolding judge_edge chance map_read
     zero_passes wide e f h w =
         let two : suc place < length ws = omega (arith, both_there e f h) in
-        rw (zero-words (threshold_value z) m e (rw f h), e, ← same, f, ne_eqb z.below (2 ^ 64) (ne_of_lt h), wide-there ws place two, w, add-one place, add-two place)
+        rw (zero_words (threshold_value z) m e (rw f h), e, ← same, f, ne_eqb z.below (2 ^ 64) (ne_of_lt h), wide-there ws place two, w, add-one place, add-two place)
 
     pub edge_passes : (l : Layer) (r : Bool) → (m ≡ 0 → ⊥) → m < length t.curve → l ≡ layer_at t i
         → r ≡ accepts_on deviation l (float m) (get_or t.curve m nan) (float (get_or ws place 0)) → Judges r
@@ -86,7 +86,7 @@ module _ (z : Threshold) (m place : ℕ) (ws : List ℕ) (there : place + edge_w
         rw (
           edge_word (threshold_value z) m some,
           ne_eqb m 0 some,
-          word-there ws place (one-there some),
+          word-there ws place (one_there some),
           add-one place,
           accepts,
           here,

@@ -19,11 +19,10 @@ use Rattle.distr.specs.Layered.{passed_try}
 use Rattle.distr.proofs.Reading.{choose_accept, short-not-got, chose}
 use Rattle.distr.proofs.Skipping.{choice_counts}
 use Rattle.words.specs.declared.Taken.{Taken}
-use Rattle.words.specs.declared.Taken.TheVariants.{Got as There, Short as Missing}
 use Rattle.words.specs.Reading.{taken}
 use Rattle.words.proofs.Places.{choose_none, coin-there}
 use Rattle.words.proofs.Taking.{took_choice, chosen-below, taken-short}
-use Rattle.ziggurat.specs.declared.sampling.Proposal.TheVariants.{Got, Short}
+use Rattle.std.proofs.Common.{Option, Some, None}
 use Rattle.ziggurat.specs.Tables.{tables, layer_sizes}
 use Rattle.ziggurat.specs.Sampling.{Proposed, propose, Proposes, OnLayer}
 
@@ -77,11 +76,10 @@ among_few k m ws rest e = go (leb k (2 ^ 32)) refl
     go true t = leb-true k (2 ^ 32) t
     go false t = absurd (short-not-got (sym (choose_far k ws (leb-false k (2 ^ 32) t)) ∙ e))
 
-pub magnitude-fits : (ws : List ℕ) (i k m after skipped : ℕ) (r : Taken) → r ≡ There m after skipped
-    → r ≡ taken (length ws) (passed_over k (drop i ws)) (choose k (drop i ws)) → Fits w32 m
-magnitude-fits ws i k m after skipped r e told =
-    let few = among_few k m (drop i ws) (drop after ws) (took_choice ws i m after k (sym e ∙ told)).reads in
-    record { fits = omega (arith, chosen-below ws i m after k (sym e ∙ told)) }
+pub magnitude_fits : (ws : List ℕ) (i k : ℕ) {r : Taken} → Some r ≡ taken (length ws) (passed_over k (drop i ws)) (choose k (drop i ws)) → Fits w32 r.value
+magnitude_fits ws i k {r} told =
+    let few = among_few k r.value (drop i ws) (drop r.place ws) (took_choice ws i k told).reads in
+    record { fits = omega (arith, chosen-below ws i k told) }
 
 -- the choice up to an endpoint where the number of choices wraps: it wraps to 0 from 2^64, and among neither is a word accepted
 wrapped : (end k : ℕ) (ws : List ℕ) → Fits w64 end → k ≡ (end + 1) % 2 ^ 64 → choose k ws ≡ choose (suc end) ws
@@ -106,7 +104,7 @@ module _ (endpoints ws : List ℕ) (place : ℕ) where
       go false v next none = refl
   few (w ∷ v ∷ xs) h = absurd (omega arith)
 
-  too_few : length ws - place < 2 → Proposes endpoints ws place Short
+  too_few : length ws - place < 2 → Proposes endpoints ws place None
   too_few h = record { reads = sym (few (drop place ws) (omega (arith, length-drop place ws))); sound = tt }
 
   abbrev chosen : ℕ
@@ -134,19 +132,19 @@ module _ (endpoints ws : List ℕ) (place : ℕ) where
         let none = choice_counts (length endpoints - 1) (drop place ws) chosen (drop (suc place) ws) layer in
         rw (layer, tossed) (omega (arith, none, length-drop place ws, length-drop (suc place) ws))
 
-    lacking : choose (suc end) (drop (place + 2) ws) ≡ short → Proposes endpoints ws place Short
+    lacking : choose (suc end) (drop (place + 2) ws) ≡ short → Proposes endpoints ws place None
     unfolding propose bind_read map_read
     lacking e = record { reads = rw (layer, tossed, e); sound = tt }
 
-    no_third : length ws - place < 3 → Proposes endpoints ws place Short
+    no_third : length ws - place < 3 → Proposes endpoints ws place None
     unfolding choose
     no_third h = lacking (rw (drop_of_length-le ws {i = place + 2} (omega arith)))
 
   -- a try with fewer than three words left lacks one
-  pub few_words : T (layer_sizes endpoints) → ((i : ℕ) → Fits w32 (get_or ws i 0)) → length ws - place < 3 → Proposes endpoints ws place Short
+  pub few_words : T (layer_sizes endpoints) → ((i : ℕ) → Fits w32 (get_or ws i 0)) → length ws - place < 3 → Proposes endpoints ws place None
   few_words sizes each h = go (leb 2 (length ws - place)) refl
     where
-      go : (b : Bool) → leb 2 (length ws - place) ≡ b → Proposes endpoints ws place Short
+      go : (b : Bool) → leb 2 (length ws - place) ≡ b → Proposes endpoints ws place None
       go true t = no_third sizes (leb-true 2 (length ws - place) t) each h
       go false t = too_few (leb-false 2 (length ws - place) t)
 
@@ -156,31 +154,32 @@ module _ (endpoints ws : List ℕ) (place : ℕ) where
     two = omega arith
 
     -- the magnitude, as it was taken by a choice among k, which is one more than the endpoint, and wraps
-    module _ (k : ℕ) (fits : (i : ℕ) → Fits w64 (get_or endpoints i 0)) (wraps : k ≡ (end + 1) % 2 ^ 64) (r : Taken)
-        (told : r ≡ taken (length ws) (passed_over k (drop (place + 2) ws)) (choose k (drop (place + 2) ws))) where
+    module _ (k : ℕ) (fits : (i : ℕ) → Fits w64 (get_or endpoints i 0)) (wraps : k ≡ (end + 1) % 2 ^ 64) where
       same : choose k (drop (place + 2) ws) ≡ choose (suc end) (drop (place + 2) ws)
       same = wrapped end k (drop (place + 2) ws) (fits (chosen + 1)) wraps
 
-      pub no_magnitude : r ≡ Missing → Proposes endpoints ws place Short
-      no_magnitude e = lacking sizes two each (sym same ∙ taken-short (length ws) (passed_over k (drop (place + 2) ws)) _ (sym e ∙ told))
+      abbrev told : Option Taken
+      told = taken (length ws) (passed_over k (drop (place + 2) ws)) (choose k (drop (place + 2) ws))
 
-      module _ (m after skipped : ℕ) (e : r ≡ There m after skipped) where
-        pub all_three :
-            Proposes endpoints ws place (Got (record { layer = chosen + 1; positive = leb (2 ^ 31) (get_or ws (place + 1) 0); magnitude = m; place = after }))
-        unfolding propose bind_read map_read
-        all_three =
-            let took = took_choice ws (place + 2) m after k (sym e ∙ told) in
-            let read : choose (suc end) (drop (place + 2) ws) ≡ got m (drop after ws) = sym same ∙ took.reads in
-            let few = among_few (suc end) m (drop (place + 2) ws) (drop after ws) read in
-            let on : OnLayer endpoints (chosen + 1) m = record {
-              some = omega arith;
-              there = layer-there endpoints (get_or ws place 0) sizes;
-              below = omega (arith, (chose (suc end) (drop (place + 2) ws) m (drop after ws) read).below);
-              small = omega arith;
-            } in
-            let count = choice_counts (suc end) (drop (place + 2) ws) m (drop after ws) read in
-            record {
-              reads = rw (layer sizes two each, tossed sizes two each, read);
-              sound =
-                  (on, omega (arith, count, passes sizes two each, length-drop (place + 2) ws, length-drop after ws, took.within), took.within);
-            }
+      pub no_magnitude : None ≡ told → Proposes endpoints ws place None
+      no_magnitude e = lacking sizes two each (sym same ∙ taken-short (length ws) (passed_over k (drop (place + 2) ws)) _ e)
+
+      pub all_three : {r : Taken} → Some r ≡ told
+          → Proposes endpoints ws place (Some (record { layer = chosen + 1; positive = leb (2 ^ 31) (get_or ws (place + 1) 0); magnitude = r.value; place = r.place }))
+      unfolding propose bind_read map_read
+      all_three {r} e =
+          let took = took_choice ws (place + 2) k e in
+          let read : choose (suc end) (drop (place + 2) ws) ≡ got r.value (drop r.place ws) = sym same ∙ took.reads in
+          let few = among_few (suc end) r.value (drop (place + 2) ws) (drop r.place ws) read in
+          let on : OnLayer endpoints (chosen + 1) r.value = record {
+            some = omega arith;
+            there = layer-there endpoints (get_or ws place 0) sizes;
+            below = omega (arith, (chose (suc end) (drop (place + 2) ws) r.value (drop r.place ws) read).below);
+            small = omega arith;
+          } in
+          let count = choice_counts (suc end) (drop (place + 2) ws) r.value (drop r.place ws) read in
+          record {
+            reads = rw (layer sizes two each, tossed sizes two each, read);
+            sound =
+                (on, omega (arith, count, passes sizes two each, length-drop (place + 2) ws, length-drop r.place ws, took.within), took.within);
+          }

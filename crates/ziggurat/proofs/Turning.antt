@@ -6,15 +6,11 @@ use mathlib.Core.Logic.{◌⊎◌, inl, inr}
 use Prim.Native.Nat.{ℕ, ◌+◌, ◌-◌, ◌*◌, ◌^◌, ◌<◌, ◌≤◌}
 use native.Mathlib.Nat.{add-zero}
 use native.Mathlib.Omega.{arith}
-use borrow.Author.Rules.{sfits_of}
-use borrow.Author.Tests.{lt-ltb}
 use mir.Syntax.{w64}
-use mir.Val.{Fits, bool_byte, to_z, of_z}
-use mir.Facts.{to_z-of_z}
-use lib.Dec.{T, ltb, eqb}
+use mir.Val.{Fits, bool_byte}
+use lib.Dec.{T, eqb}
 use lib.ListN.{length, get_or, drop, set, replicate}
 use lib.IntN.{ℤ, pos}
-use lib.Signed.{mag}
 use lib.Ieee.{Float, nan}
 use Rattle.distr.specs.Words.{Read, got, short}
 use Rattle.distr.specs.Constants.{output_limit, out_of_words}
@@ -28,19 +24,18 @@ use Rattle.distr.specs.Draw.{Outcome, outcome, naming, settled}
 use Rattle.distr.specs.declared.gaussian_parameters.GaussianParameters.{GaussianParameters}
 use Rattle.distr.specs.declared.threshold.Threshold.{Threshold}
 use Rattle.distr.proofs.Reading.{map_read_same}
-use Rattle.distr.proofs.Writing.{map_id, map-replicate}
+use Rattle.distr.proofs.Writing.{map-replicate}
 use Rattle.distr.proofs.FirstWrong.{layer-good, layer_unnamed}
 use Rattle.distr.proofs.Drawing.{settled-got, settled-short}
 use Rattle.distr.proofs.Skipping.{reports_words}
 use Rattle.draw_laws.proofs.Naming.{settled-named, draw-index}
-use Rattle.layer_tables.specs.declared.LayerFault.{LayerFault}
-use Rattle.layer_tables.specs.Fault.{layer_fault}
+use Rattle.layer_tables.specs.Fault.{Fault, layer_fault}
 use Rattle.numbers.proofs.Refusing.{draw_number, number_by, number_passed, read_refused, read_passed}
 use Rattle.words.specs.Reading.{threshold_value}
 use Rattle.words.proofs.Places.{lent_from, lent-all, lent-place}
 use Rattle.ziggurat.specs.declared.sampling.Trial.{Trial}
-use Rattle.ziggurat.specs.declared.sampling.Attempted.{Attempted}
-use Rattle.ziggurat.specs.declared.sampling.Attempted.TheVariants.{Got, Short}
+use Rattle.std.proofs.Common.{Option, Some, None}
+use Rattle.ziggurat.specs.declared.sampling.Attempt.{Attempt}
 use Rattle.ziggurat.specs.Tables.{tables, layer_sizes, layered_draw}
 use Rattle.ziggurat.specs.Sampling.{OnTables, zero_over, judge_edge, edge_words, Ready, Lacks, unproposed, unjudged, Attempts}
 use Rattle.ziggurat.proofs.LayerTables.{sizes}
@@ -48,16 +43,6 @@ use Rattle.ziggurat.proofs.ZeroThreshold.{first-there, zero-made}
 use Rattle.ziggurat.proofs.Filling.{Filled, filled_none, filled_turn, filled_short, filled_all, Counted, counted_none, counted-turn, counted-all}
 use Rattle.ziggurat.proofs.Passing.{on-tables, judge_sides, edge_lacks}
 use Rattle.ziggurat.proofs.Trying.{none_proposed, none_judged, one-judged, passed-judged}
-
--- signed output holds the coefficients themselves
-pub signed-each : (cs : List ℤ) → cs ≡ map (λ c. c) cs
-signed-each cs = sym (map_id cs)
-
--- and holds that of a trial, whose magnitude has 63 bits, as it is
-pub signed-held : (tried : Trial) {r : ℤ} → mag r < 2 ^ 63 → tried.magnitude < 2 ^ 63
-    → r ≡ cond (ltb tried.magnitude (2 ^ 63)) (with_sign tried.positive tried.magnitude) (pos 0)
-    → to_z w64 (of_z w64 r) ≡ with_sign tried.positive tried.magnitude
-signed-held tried fits below e = to_z-of_z {w = w64} (sfits_of fits) ∙ e ∙ rw (lt-ltb tried.magnitude (2 ^ 63) below)
 
 module _ {A : Type 0} (write : List ℤ → List A) (parameters : GaussianParameters) (endpoints : List ℕ) (heights curve : List Float)
     (words : List ℕ) (place : ℕ) (out₀ : List A) where
@@ -94,16 +79,16 @@ module _ {A : Type 0} (write : List ℤ → List A) (parameters : GaussianParame
   none_named = layer_unnamed parameters.maximum_magnitude t
 
   -- before the loop: the number is the first that refuses, 13 or 30 to 32 by the tables
-  module _ {fault : LayerFault} {number : ℕ} (judged : fault ≡ layer_fault parameters.maximum_magnitude t)
+  module _ {fault : Fault} {number : ℕ} (judged : fault ≡ layer_fault parameters.maximum_magnitude t)
       (numbered : number ≡ draw_number (length words) place (length out₀) fault.number) where
     by-tables : number ≡ draw_number (length words) place (length out₀) own
-    by-tables = number_by (length words) place (length out₀) fault.number own (ap (λ (f : LayerFault). f.number) judged) numbered
+    by-tables = number_by (length words) place (length out₀) fault.number own (ap (λ (f : Fault). f.number) judged) numbered
 
-    pub draw-refused : {answer : Answer} {at : ℕ} → (number ≡ 0 → ⊥) → at ≡ cond (eqb number fault.number) fault.index 0
+    pub draw_refused : {answer : Answer} {at : ℕ} → (number ≡ 0 → ⊥) → at ≡ cond (eqb number fault.number) fault.index 0
         → answer ≡ refusal_at number place at → outcome answer out₀ ≡ draw
-    draw-refused some f e =
+    draw_refused some f e =
         let named : cond (eqb number fault.number) fault.index 0 ≡ index number =
-        ap (λ (x : LayerFault). cond (eqb number x.number) x.index 0) judged
+        ap (λ (x : Fault). cond (eqb number x.number) x.index 0) judged
         ∙ draw-index index none_named (length words) place (length out₀) own by-tables in
         rw e
         (ap (λ (i : ℕ). record { number = number; place = place; index = i; output = out₀ }) (f ∙ named)
@@ -116,14 +101,14 @@ module _ {A : Type 0} (write : List ℤ → List A) (parameters : GaussianParame
           (all.0, all.1, layer-good parameters.maximum_magnitude t all.2)
 
       -- the place is one of the words', also in bytes
-      pub place-within : place ≤ length words
-      place-within = passed.0
+      pub place_within : place ≤ length words
+      place_within = passed.0
 
-      pub place-bytes : length words * 4 < 2 ^ 63 → Fits w64 (place * 4)
-      place-bytes room = record { fits = omega (arith, place-within) }
+      pub place_bytes : length words * 4 < 2 ^ 63 → Fits w64 (place * 4)
+      place_bytes room = record { fits = omega (arith, place_within) }
 
-      pub heights-there : 0 < length heights
-      heights-there = first-there parameters.maximum_magnitude t passed.2
+      pub heights_there : 0 < length heights
+      heights_there = first-there parameters.maximum_magnitude t passed.2
 
       pub turning_none : {put : ℤ → A} {zero : Threshold} → ((cs : List ℤ) → write cs ≡ map put cs) → zero ≡ zero_over (get_or heights 0 nan)
           → Turning put zero (lent_from words place) 0 0 0 out₀
@@ -188,7 +173,7 @@ module _ {A : Type 0} (write : List ℤ → List A) (parameters : GaussianParame
       turn_count true = record { fits = omega (arith, l.limited) }
       turn_count false = record { fits = omega (arith, l.limited) }
 
-      module _ (told : Attempted) (attempts : Attempts endpoints (threshold_value zero) from at told) where
+      module _ (told : Option Attempt) (attempts : Attempts endpoints (threshold_value zero) from at told) where
         lacking : Lacks endpoints (threshold_value zero) from at → one (drop at from) ≡ short
         lacking (unproposed p) = none_proposed deviation t (drop at from) (sym p.reads)
         lacking (unjudged tried p e h) =
@@ -197,9 +182,9 @@ module _ {A : Type 0} (write : List ℤ → List A) (parameters : GaussianParame
             ∙ rw e (edge_lacks deviation t tried.layer tried.magnitude (threshold_value zero) l.threshold from tried.place p.sound.2 h))
 
         -- one that lacks a word leaves the whole short
-        pub turn-short : {answer : Answer} {cleared : List A} → told ≡ Short → answer ≡ refusal out_of_words place
+        pub turn_short : {answer : Answer} {cleared : List A} → told ≡ None → answer ≡ refusal out_of_words place
             → cleared ≡ replicate (length out) (put (pos 0)) → outcome answer cleared ≡ draw
-        turn-short {answer} {cleared} e a c =
+        turn_short {answer} {cleared} e a c =
             rw a
             (settled-short write (length words) place (length out₀) cleared _
             (map_read_same write (map put) l.each _ ∙ filled_short put one from 0 out₀ i at out more l.filled (lacking (rw e at attempts)))
@@ -207,8 +192,17 @@ module _ {A : Type 0} (write : List ℤ → List A) (parameters : GaussianParame
             ∙ sym (l.each (replicate (length out₀) (pos 0)) ∙ map-replicate put (length out₀) (pos 0))))
             ∙ l.draws
 
-        module _ {tried : Trial} {inside : Bool} {after : ℕ} (begun : told ≡ Got tried inside after) where
-          ready : Ready endpoints (threshold_value zero) from at tried inside after
+        module _ {a : Attempt} (begun : told ≡ Some a) where
+          abbrev tried : Trial
+          tried = a.trial
+
+          abbrev inside : Bool
+          inside = a.inside
+
+          abbrev after : ℕ
+          after = a.after
+
+          ready : Ready endpoints (threshold_value zero) from at a
           ready = rw begun at attempts
 
           -- what the judging at the edge asks for
@@ -257,10 +251,18 @@ module _ {A : Type 0} (write : List ℤ → List A) (parameters : GaussianParame
           read passed came =
               one-judged deviation t (drop at from) _ _ (sym ready.reads.reads) passed (drop after from) (judged_so passed came)
 
+          -- a magnitude has 32 bits, so that the element stored holds the trial's coefficient
+          held_so : {sign : Bool → ℕ → A} → ((positive : Bool) (m : ℕ) → m < 2 ^ 63 → sign positive m ≡ put (with_sign positive m))
+              → sign tried.positive tried.magnitude ≡ put (with_sign tried.positive tried.magnitude)
+          held_so law =
+              let on = ready.reads.sound.0 in
+              law tried.positive tried.magnitude (omega (arith, on.below, on.small))
+
           -- the trial is stored, and counted where it passes
-          pub turn-next : (passed : Bool) → Came passed → {a : A} → a ≡ put (with_sign tried.positive tried.magnitude)
-              → Turning put zero from (i + bool_byte passed) after (used + (after - tried.place + 3)) (set out i a)
-          turn-next passed came {a} s = record {
+          pub turn_next : {sign : Bool → ℕ → A} → ((positive : Bool) (m : ℕ) → m < 2 ^ 63 → sign positive m ≡ put (with_sign positive m))
+              → (passed : Bool) → Came passed → {e : A} → e ≡ sign tried.positive tried.magnitude
+              → Turning put zero from (i + bool_byte passed) after (used + (after - tried.place + 3)) (set out i e)
+          turn_next law passed came {e} s = record {
             each = l.each;
             good = l.good;
             threshold = l.threshold;
@@ -268,8 +270,8 @@ module _ {A : Type 0} (write : List ℤ → List A) (parameters : GaussianParame
             begins = l.begins;
             part = l.part;
             draws = l.draws;
-            filled = filled_turn put one from 0 out₀ i at after out a (with_sign tried.positive tried.magnitude) passed more l.filled
-                (read passed came) ready.within s;
+            filled = filled_turn put one from 0 out₀ i at after out e (with_sign tried.positive tried.magnitude) passed more l.filled
+                (read passed came) ready.within (s ∙ held_so law);
             counted = counted-turn one (passed_one deviation t) from (length out₀) i at after used (passed_try t (drop at from)) (after - tried.place + 3)
                 (with_sign tried.positive tried.magnitude) passed more l.counted (read passed came)
                 (passed-judged deviation t (drop at from) _ _ (sym ready.reads.reads) passed (drop after from) (judged_so passed came))

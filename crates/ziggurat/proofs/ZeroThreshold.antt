@@ -12,7 +12,9 @@ use lib.Ieee.Order.{round_mono}
 use lib.Ieee.Positive.{first_pos}
 use lib.Ieee.Scale.{finite}
 use lib.ListN.{length, get_or}
+use Rattle.std.specs.Prelude.{Result}
 use Rattle.distr.specs.declared.threshold.Threshold.{Threshold}
+use Rattle.distr.specs.declared.refusal.Refusal.{Refusal}
 use Rattle.distr.specs.Constants.{literal}
 use Rattle.distr.specs.Layered.{Layers, in_unit, layer_tables, zero_threshold}
 use Rattle.distr.specs.Thresholds.{threshold}
@@ -21,7 +23,7 @@ use Rattle.distr.proofs.Reading.{and_both, T_true}
 use Rattle.words.specs.Reading.{threshold_value}
 use Rattle.probability.proofs.Made.{flagged-value, made-threshold}
 use Rattle.distr.proofs.FirstWrong.{get_d_there}
-use Rattle.ziggurat.specs.Sampling.{zero_over}
+use Rattle.ziggurat.specs.Sampling.{zero_over, made_or_none}
 use Rattle.ziggurat.proofs.LayerTables.{some-layers, heights_count, first-finite, first-high}
 
 -- what lies between 0 and 1 is finite
@@ -62,5 +64,5 @@ module _ (M : ℕ) (t : Layers) (good-tables : T (layer_tables M t)) where
       let p = div binary64 (literal 1 2) first in
       ap threshold_value e
       ∙ ap (λ (h : Float). threshold_value (zero_over h)) (get_d_there t.heights 0 nan (literal 0 1) first-there)
-      ∙ ap threshold_value (made-threshold p (half_over first (first-finite M t good-tables) (first-high M t good-tables)))
+      ∙ ap (λ (r : Result Threshold Refusal). threshold_value (made_or_none r)) (made-threshold p (half_over first (first-finite M t good-tables) (first-high M t good-tables)))
       ∙ flagged-value (threshold p)

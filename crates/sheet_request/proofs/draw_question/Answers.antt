@@ -16,7 +16,7 @@ returns-then-modulus-eq0 c =
     let both = asked_draw (λ (d : Distr). signed_draw true d no_tables a.words.now a.place a.output.now)
     (λ (d : Distr). skips_of d (length a.output.now) no_tables (drop a.place a.words.now))
     a.place a.output.now a.kind a.a a.b c.select-found.ensures
-    (any_signed no_tables a.words.now a.place c.select-found.result c.prepare-by.ensures a.output.now (c.sample_signed_to.ensures.output_after, c.sample_signed_to.ensures.result_value)) in
+    (any_signed no_tables a.words.now a.place _ c.select-found.result c.prepare-by.ensures a.output.now (c.sample_signed_to.ensures.output_after, c.sample_signed_to.ensures.result_value)) in
     rw c.if-modulus-eq0.true (record { output_after = both.0; result_value = both.1 })
 
 pub returns : goal.returns

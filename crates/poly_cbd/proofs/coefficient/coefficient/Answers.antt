@@ -1,7 +1,6 @@
 -- `coefficient` takes the two sums apart and gives their difference modulo q.
 use lib.Pow.{pow_pos}
 use native.Mathlib.Omega.{arith}
-use borrow.Author.Rules.{rules}
 use Rattle.poly_cbd.proofs.Bits.{small, mask_fits, Apart, apart, modulo-pos, modulo-neg}
 use Rattle.poly_cbd.proofs.coefficient.coefficient.Goals as goal
 use Rattle.poly_cbd.proofs.coefficient.coefficient.Goals.{After-both_sums-sums}

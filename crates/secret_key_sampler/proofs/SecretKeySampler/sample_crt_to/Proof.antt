@@ -14,7 +14,7 @@ returns c =
     let start = tried.before.before.before.before.before.before.before.before.before in
     let a = start.args in
     sampler_crt makes prepares a.self (sampler_fits a.self _ start.well_formed.0) (lent a.bounds.now a.endpoints.now a.heights.now a.curve.now)
-    a.words.now a.place tried.prepared.ensures a.coefficient_count a.moduli.now a.output.now drawn.sample_crt_to.ensures
+    a.words.now a.place _ tried.prepared.ensures a.coefficient_count a.moduli.now a.output.now drawn.sample_crt_to.ensures
 
 pub sample_crt_to_spec : {M : Type 1} → statement M
 sample_crt_to_spec = tie.close (tie.spec (λ c κs. search rules) (λ c κs. search rules) (λ c. search rules) returns)

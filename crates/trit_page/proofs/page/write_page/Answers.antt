@@ -4,13 +4,13 @@ use Rattle.trit_page.proofs.Lines.{printed, printed_none, printed_more, printed-
 use Rattle.trit_page.proofs.page.write_page.Goals as goal
 
 pub loop-byte-init : goal.loop-byte-init
-loop-byte-init c = (omega arith, sym (printed_none c.args.page.now))
+loop-byte-init c = sym (printed_none c.args.page.now)
 
 pub loop-byte-preserved : goal.loop-byte-preserved
 loop-byte-preserved c =
-    (omega arith, rw c.loop-byte.invariant.1 (printed_more c.loop-byte.byte c.args.page.now c.write_line.new.line c.write_line.ensures))
+    rw c.loop-byte.invariant (printed_more c.loop-byte.byte c.args.page.now c.write_line.new.line c.write_line.ensures)
 
 pub returns : goal.returns
 returns c =
     let end : c.loop-byte.byte ≡ 243 = omega arith in
-    c.loop-byte.invariant.1 ∙ ap (λ (k : ℕ). printed k c.args.page.now) end ∙ printed-all c.args.page.now (omega arith)
+    c.loop-byte.invariant ∙ ap (λ (k : ℕ). printed k c.args.page.now) end ∙ printed-all c.args.page.now (omega arith)

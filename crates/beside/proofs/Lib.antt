@@ -1,2 +1,0 @@
--- Laws on the calls: what a kind names.
-pub mod Naming

@@ -1,0 +1,7 @@
+-- `ok` and the test of what is left stand for the test of the whole.
+use Rattle.std.proofs.Common.{◌≡◌, ◌&&◌, drop}
+use Rattle.distr.specs.Layered.{all_in_unit}
+use Rattle.layer_tables.proofs.all_in_unit.Given as goal
+
+abbrev pub invariant-loop-x : goal.invariant-loop-x
+invariant-loop-x l = l.ok && all_in_unit (drop l.x-index l.xs) ≡ all_in_unit l.xs

@@ -1,2 +1,0 @@
--- What a signed output holds.
-pub mod Out

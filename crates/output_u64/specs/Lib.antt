@@ -1,2 +1,0 @@
--- What an output of residues holds.
-pub mod Out
