@@ -1,13 +1,17 @@
 -- The secret-key sampler as a kind of sampler, by which the laws of making hold of it; and number 21.
 use mathlib.Core.Path.{◌≡◌, refl}
-use mathlib.Core.Bool.{Bool, false}
+use mathlib.Core.Bool.{Bool, false, not}
 use lib.Dec.{T}
 use lib.Ieee.{binary64, fits}
+use Rattle.std.specs.Prelude.{Result}
+use Rattle.distr.specs.declared.refusal.Refusal.{Refusal}
+use Rattle.distr.specs.Constants.{never_made}
+use Rattle.distr.specs.Refusals.{Makes as Prepares}
 use Rattle.distr.specs.declared.secret_key_distr.SecretKeyDistr.{SecretKeyDistr}
 use Rattle.distr.specs.Distribution.{secret}
-use Rattle.distr.specs.Making.{secret_number, making_number, largest}
+use Rattle.distr.specs.Making.{secret_number, making_number, refuse, largest}
 use Rattle.draw_laws.proofs.Making as Making
-use Rattle.draw_laws.proofs.Making.{Makes}
+use Rattle.draw_laws.proofs.Making.{Makes, call_number, call_made}
 use Rattle.methods.specs.declared.SamplingMethod.{SamplingMethod}
 use Rattle.methods.specs.Method.{magnitude_of}
 use Rattle.methods.specs.Keys.{method_key, same_key}
@@ -79,3 +83,12 @@ made-magnitude = Making.good-magnitude makes
 
 pub prepared-made : (d : SecretKeyDistr) → secret_number d ≡ 0 → T (is_made (record { distr = d; method = prepared d }))
 prepared-made = Making.prepared-good makes
+
+-- A call that makes a sampler of d and draws by it: refused by the number of making, or by the method that is prepared for d.
+module _ (d : SecretKeyDistr) {m : MadeSecretKeySampler} (h : m ≡ making d) where
+  pub made-refused : m.number ≡ making_number (secret d)
+  made-refused = call_number makes d m h
+
+  pub made-method_of : m.number ≡ 0 → (r : Result SamplingMethod Refusal) → Prepares (refuse (not (is_made m.sampler)) never_made) m.sampler.method r
+      → Prepares (making_number (secret d)) (prepared_method (secret d)) r
+  made-method_of z r p = let made = call_made makes d m h z in rw (← call_number makes d m h, z, prepares d) (rw (made.0, made.1) at p)
