@@ -5,7 +5,7 @@
 mod residues;
 mod signed;
 
-ghost use Rattle.std.specs.Prelude.{◌≡◌, ℕ, ◌<◌, ◌^◌, Bool, cond, eqb, List, map, length, replicate, ℤ, pos, negsuc, ◌-ℤ◌};
+ghost use Rattle.std.specs.Prelude.{◌≡◌, ℕ, ◌%◌, ◌<◌, ◌^◌, Bool, cond, eqb, List, map, length, replicate, ℤ, pos, negsuc, ◌-ℤ◌};
 ghost use Rattle.distr.specs.Answers.{refusal};
 ghost use Rattle.distr.specs.Constants.{out_of_words};
 ghost use Rattle.distr.specs.Refusals.{number};
@@ -33,10 +33,9 @@ pub trait Output: Copy {
     // A magnitude with its sign, as the output holds it.
     ghost held_sign: { Self.Encoding → Bool → ℕ → Self };
 
-    // A count that both signs of fit 64 bits.
+    // A count below 2^63, so that both its signs fit 64 bits; of a larger one, what is above the largest multiple of 2^63 in it.
     fn natural(value: u64) -> Self
-        requires { value < 2 ^ 63 }
-        ensures { result ≡ natural value };
+        ensures { result ≡ natural (value % 2 ^ 63) };
 
     // What stands for -1.
     fn minus_one(encoding: Self::Encoding) -> Self

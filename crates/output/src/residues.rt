@@ -23,7 +23,7 @@ impl Output for u64 {
     ghost held_sign = { held_sign };
 
     fn natural(value: u64) -> u64 {
-        value
+        value % 0x8000_0000_0000_0000
     }
 
     fn minus_one(encoding: Residues) -> u64 {

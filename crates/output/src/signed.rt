@@ -24,7 +24,7 @@ impl Output for i64 {
     ghost held_sign = { held_sign };
 
     fn natural(value: u64) -> i64 {
-        value as i64
+        (value % 0x8000_0000_0000_0000) as i64
     }
 
     fn minus_one(_encoding: Signed) -> i64 {

@@ -1,4 +1,5 @@
 use Rattle.std.proofs.Common.{arith, ◌∙◌, sym, ap}
+use Rattle.output.proofs.Naturals.{natural_small}
 use Rattle.numbers.proofs.WideStores.{stored_none, stored_more, stored-all}
 use Rattle.binary.proofs.Values.{one-signed, one_fits}
 use Rattle.binary.proofs.store.fill_by.Goals as goal
@@ -10,12 +11,9 @@ loop-element-init g c = (omega arith, stored_none _ _ _ _)
 pub loop-element-preserved : goal.loop-element-preserved
 loop-element-preserved g c =
     let loop = c.loop-element in
-    let held = c.natural.ensures ∙ ap g.T.Output.natural c.one_below.ensures ∙ sym (g.met.T.Output.natural_held c.args.encoding _)
+    let held = c.natural.ensures ∙ ap g.T.Output.natural (rw c.one_below.ensures (natural_small _ (one_fits _ _)) ∙ c.one_below.ensures) ∙ sym (g.met.T.Output.natural_held c.args.encoding _)
     ∙ ap (g.T.Output.held_one c.args.encoding) (one-signed _ _) in
     (omega (arith, loop.invariant.0), stored_more _ _ _ _ loop.invariant.1 c.loop-element-test.true loop.invariant.0 c.wide_word-word.ensures held)
-
-pub natural-requires : goal.natural-requires
-natural-requires g c = rw c.one_below.ensures (one_fits _ _)
 
 pub returns : goal.returns
 returns g c = stored-all _ _ _ _ c.loop-element.invariant.1 c.loop-element-test.false c.requires

@@ -1,0 +1,2 @@
+-- Laws on what an output holds.
+pub mod Naturals
