@@ -3,9 +3,8 @@
 // the functions below.
 ghost use Rattle.std.specs.Prelude.{◌≡◌};
 ghost use Rattle.distr.specs.Answers.{refusal, refusal_at, success, success_after};
-ghost use Rattle.distr.specs.Refusals.{number};
 
-use crate::refusal::Refusal;
+use crate::refusal::Reason;
 
 #[derive(Clone, Copy, Debug, PartialEq, Eq)]
 pub struct Answer {
@@ -16,12 +15,12 @@ pub struct Answer {
     pub skipped_bytes: u64,
 }
 
-// A refused draw: its number, the place as it was, and the index that goes with the number. It reports nothing skipped.
-pub fn refused_at(why: Refusal, place: usize, index: usize) -> Answer
-    ensures { result ≡ refusal_at (number why) place index }
+// A refused draw: its number, or that of its refusal, the place as it was, and the index that goes with the number. It reports nothing skipped.
+pub fn refused_at<R: Reason>(why: R, place: usize, index: usize) -> Answer
+    ensures { result ≡ refusal_at (R.refusing why) place index }
 {
     Answer {
-        number: why.number(),
+        number: why.refusing(),
         place,
         index,
         skipped_words: 0,
@@ -30,8 +29,8 @@ pub fn refused_at(why: Refusal, place: usize, index: usize) -> Answer
 }
 
 // A draw refused by a number that names no index.
-pub fn refused(why: Refusal, place: usize) -> Answer
-    ensures { result ≡ refusal (number why) place }
+pub fn refused<R: Reason>(why: R, place: usize) -> Answer
+    ensures { result ≡ refusal (R.refusing why) place }
 {
     refused_at(why, place, 0)
 }

@@ -1,5 +1,5 @@
 // Why a call refuses, under the Rust's names where its errors have one. Callers are told by number: success is 0.
-ghost use Rattle.std.specs.Prelude.{◌≡◌};
+ghost use Rattle.std.specs.Prelude.{◌≡◌, ℕ};
 ghost use Rattle.distr.specs.Refusals.{number, number_of};
 
 #[derive(Clone, Copy, Debug, PartialEq, Eq)]
@@ -101,5 +101,30 @@ pub fn number_of(checked: Result<(), Refusal>) -> u32
     match checked {
         Ok(()) => 0,
         Err(why) => why.number(),
+    }
+}
+
+// What refuses a call: a refusal, or any number by which callers are told of one.
+pub trait Reason: Copy {
+    // The number that callers are told.
+    ghost refusing: { Self → ℕ };
+
+    fn refusing(self) -> u32
+        ensures { result ≡ refusing self };
+}
+
+impl Reason for Refusal {
+    ghost refusing = { number };
+
+    fn refusing(self) -> u32 {
+        self.number()
+    }
+}
+
+impl Reason for u32 {
+    ghost refusing = { λ n. n };
+
+    fn refusing(self) -> u32 {
+        self
     }
 }

@@ -8,7 +8,7 @@ ghost use Rattle.distr.specs.Refusals.{number, number_of};
 ghost use Rattle.layer_tables.specs.Fault.{layer_fault, told};
 ghost use Rattle.layer_tables.specs.Lent.{lent_tables};
 
-use distr::refusal::Refusal;
+use distr::refusal::{Reason, Refusal};
 use first_wrong::{first_wrong_endpoint, first_wrong_height, first_wrong_value, sizes_ok};
 use gaussian_core::rising::rising_ok;
 
@@ -164,14 +164,14 @@ pub fn refusal_of(checked: Result<(), LayerFault>) -> Result<(), Refusal>
 }
 
 // The index that goes with a draw's refusal: the fault's where the tables are what refuses the draw, else 0.
-pub fn index_with(why: Refusal, checked: Result<(), LayerFault>) -> usize
-    ensures { result ≡ cond (eqb (number why) (told checked).number) (told checked).index 0 }
+pub fn index_with<R: Reason>(why: R, checked: Result<(), LayerFault>) -> usize
+    ensures { result ≡ cond (eqb (R.refusing why) (told checked).number) (told checked).index 0 }
 {
     let fault = match checked {
         Ok(()) => return 0,
         Err(fault) => fault,
     };
-    if why.number() != fault.refusal.number() {
+    if why.refusing() != fault.refusal.number() {
         return 0;
     }
     fault.index

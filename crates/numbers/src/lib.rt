@@ -31,6 +31,17 @@ pub fn check_draw(
     own
 }
 
+// The same by numbers: 22, 6, or the draw's own number, 0 where that is good.
+#[tactic(auto, unfolding(distr::specs::Numbers::first_of))]
+pub fn draw_number(count: usize, place: usize, n: usize, own: u32) -> u32
+    ensures { result ≡ first_of (past_end count place ∷ too_long n ∷ own ∷ []) }
+{
+    match check_draw(count, place, n, Ok(())) {
+        Ok(()) => own,
+        Err(why) => why.number(),
+    }
+}
+
 // What refuses a draw that the draw itself refuses: 22 and 6 come before its own.
 #[tactic(auto, unfolding(distr::specs::Numbers::first_of))]
 pub fn first_refusal(count: usize, place: usize, n: usize, own: Refusal) -> Refusal
