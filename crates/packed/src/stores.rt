@@ -185,7 +185,8 @@ fn store_fitting<T: Output>(output: &mut [T], at: usize, tables: &Tables<T>, byt
     if 5 <= output.len() - at {
         return store_byte(output, at, tables, byte);
     }
-    if byte < ACCEPTED {
+    let accepted = byte < ACCEPTED;
+    if accepted {
         let mut whole = [T::natural(0); 5];
         store_trits(&mut whole, 0, tables, byte);
         store_front(output, at, &whole);
