@@ -40,7 +40,7 @@ module _ (s : CenteredBinomialParameters) (made : is_made_binomial s ≡ true) w
       rw (made_mask s made) (shl_exact s.eta s.eta 64 (ones_lt s.eta) (omega arith))
 
   -- the mask that `upper_mask` makes
-  upper-made : {upper : ℕ} → upper ≡ cond (is_made_binomial s) (upper_mask s) 0 → upper ≡ upper_mask s
+  pub upper-made : {upper : ℕ} → upper ≡ cond (is_made_binomial s) (upper_mask s) 0 → upper ≡ upper_mask s
   upper-made e = e ∙ ap (λ (b : Bool). cond b (upper_mask s) 0) made
 
   -- what f gives for the difference of what `ones_of` counts under both masks

@@ -105,23 +105,23 @@ module _ {A : Type 0} (z : A) where
 
 -- the same of a table that is equal to it: its pairs, and its digits alone, where they are what a function gives
 module _ {A : Type 0} (z : A) (values : List A) (positive : 0 < length values) {pairs : List A} (made : pairs ≡ pairs_of values) where
-  made-paired : Paired (length values) z pairs
+  pub made-paired : Paired (length values) z pairs
   made-paired = rw made (paired z values positive)
 
-  made_agrees : (g : ℕ → A) → ((d : ℕ) → d < length values → get_or values d z ≡ g d) → (d : ℕ) → d < length values → digit_value z pairs d ≡ g d
+  pub made_agrees : (g : ℕ → A) → ((d : ℕ) → d < length values → get_or values d z ≡ g d) → (d : ℕ) → d < length values → digit_value z pairs d ≡ g d
   made_agrees g agree d h = ap (λ (ps : List A). digit_value z ps d) made ∙ digit_value_lem z values positive d h ∙ agree d h
 
 -- A claim about the digits below two, three and four, one by one.
-below_two : (P : ℕ → Type 0) → P 0 → P 1 → (d : ℕ) → d < 2 → P d
+pub below_two : (P : ℕ → Type 0) → P 0 → P 1 → (d : ℕ) → d < 2 → P d
 below_two P p₀ p₁ zero h = p₀
 below_two P p₀ p₁ (suc zero) h = p₁
 below_two P p₀ p₁ (suc (suc d)) h = absurd (omega arith)
 
-below-three : (P : ℕ → Type 0) → P 0 → P 1 → P 2 → (d : ℕ) → d < 3 → P d
+pub below-three : (P : ℕ → Type 0) → P 0 → P 1 → P 2 → (d : ℕ) → d < 3 → P d
 below-three P p₀ p₁ p₂ zero h = p₀
 below-three P p₀ p₁ p₂ (suc d) h = below_two (λ k. P (suc k)) p₁ p₂ d (omega arith)
 
-below_four : (P : ℕ → Type 0) → P 0 → P 1 → P 2 → P 3 → (d : ℕ) → d < 4 → P d
+pub below_four : (P : ℕ → Type 0) → P 0 → P 1 → P 2 → P 3 → (d : ℕ) → d < 4 → P d
 below_four P p₀ p₁ p₂ p₃ zero h = p₀
 below_four P p₀ p₁ p₂ p₃ (suc d) h = below-three (λ k. P (suc k)) p₁ p₂ p₃ d (omega arith)
 

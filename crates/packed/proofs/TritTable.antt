@@ -95,7 +95,7 @@ index_below byte = go (ltb byte 243) refl
     go false e = omega arith
 
 -- So both ways lead to the same places,
-same-places : (by : TritsBy) {table : List ℕ} → table ≡ kept_table → (byte : ℕ) → byte < 243 → places_by by table byte ≡ divided_places byte
+pub same-places : (by : TritsBy) {table : List ℕ} → table ≡ kept_table → (byte : ℕ) → byte < 243 → places_by by table byte ≡ divided_places byte
 unfolding places_by
 same-places Table e byte h = rw (e, lt-ltb byte 243 h) (ap group_places (kept_at byte h) ∙ kept-places byte h)
 same-places Division e byte h = refl

@@ -18,7 +18,7 @@ use Rattle.distr.proofs.Refusals.{refuses-eqb}
 use Rattle.poly_cbd.specs.Coefficient.{GoodBytes}
 
 -- eta is 2 or 3, and both lengths are right
-accepted : (eta bytes n : ℕ) → cbd_number eta bytes n ≡ 0 → GoodBytes eta bytes × (n ≡ cbd_coefficients)
+pub accepted : (eta bytes n : ℕ) → cbd_number eta bytes n ≡ 0 → GoodBytes eta bytes × (n ≡ cbd_coefficients)
 unfolding cbd_number first_of
 accepted eta bytes n e = go (eqb eta 2) (eqb eta 3) (eqb bytes (64 * eta)) (eqb n cbd_coefficients) refl refl refl refl e
   where
