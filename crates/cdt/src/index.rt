@@ -21,12 +21,15 @@ pub struct Sampled {
 fn index_from(ends: &[u64], word: u64, start: usize) -> usize
     ensures { result ≡ climbed (drop start ends.now) word start }
 {
-    for at in start..ends.len() {
-        if word < ends[at] {
+    let mut at = start;
+    // The place is counted by hand: where the ends are over it stands as the answer, with no test beside that of the loop.
+    while let Some(end) = ends.get(at) {
+        if word < *end {
             return at;
         }
+        at += 1;
     }
-    start.max(ends.len())
+    at
 }
 
 // The guide of a table: entry k is the index of the word k * 2^56, and is found from the entry before it. It is made once for a draw.
