@@ -18,7 +18,7 @@ use Rattle.distr.specs.Draw.{Outcome, at_once, signed_draw, encoded_draw, crt_dr
 use Rattle.methods.specs.declared.SamplingMethod.{SamplingMethod}
 use Rattle.methods.specs.declared.SamplingMethod.TheVariants.{Empty}
 use Rattle.method_draws.specs.Drawing.{prepared_method, method_draw, method_skips}
-use Rattle.prepared_draws.specs.Drawing.{prepared_draw, prepared_skips, encoded_by, crt_by, crt_skips_by}
+use Rattle.prepared_draws.specs.Drawing.{prepared_draw, prepared_draw_by, prepared_skips, encoded_by, crt_by, crt_skips_by}
 use Rattle.prepared_draws.proofs.Calls.{Answered, answered_as, once_signed, once_encoded, once_crt}
 use Rattle.any_sampler.specs.declared.AnyDistr.{AnyDistr}
 use Rattle.any_sampler.specs.declared.AnyDistr.TheVariants as Asked
@@ -27,7 +27,7 @@ use Rattle.any_sampler.specs.Either.{any_of, any_number, any_method, any_at_once
 -- Where there is no distribution, 14 is answered.
 unknown_draw : {A : Type 0} (place : ℕ) (out : List A) (draw : SamplingMethod → Outcome A) (p : Result SamplingMethod Refusal)
     → Prepares invalid_sheet Empty p → prepared_draw p place out draw ≡ record { number = invalid_sheet; place = place; index = 0; output = out }
-unfolding prepared_draw
+unfolding prepared_draw_by
 unknown_draw place out draw (Ok m) e = absurd (omega (arith, e.0))
 unknown_draw place out draw (Err why) e = rw e.0
 

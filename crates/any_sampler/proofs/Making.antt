@@ -1,4 +1,4 @@
--- Making of either kind refuses with a number up to 5, and a refusal by that number is what making comes to.
+-- Making of either kind refuses with a number up to 5.
 use Prim.Native.Nat.{ℕ, ◌≤◌}
 use native.Mathlib.Omega.{arith}
 use mathlib.Core.Bool.{Bool, true, false, cond}

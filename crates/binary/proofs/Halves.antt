@@ -7,6 +7,7 @@ use borrow.Author.Tests.{ltb-true, ltb-false}
 use lib.Bits.{bit_and, and_mask, and_zero_r}
 use lib.Dec.{ltb}
 use mir.Val.{bool_byte}
+use Rattle.output.proofs.Naturals.{bit-most}
 use Rattle.binary.specs.Below.{one_below, end_of}
 
 -- an end with its own last bit
@@ -22,10 +23,6 @@ half odd w = w / 2 + bit_and w (bool_byte odd)
 
 abbrev bound : ℕ → Bool → ℕ
 bound below odd = 2 ^ 63 - 1 + below / 2 + bool_byte odd
-
-pub bit-most : (b : Bool) → bool_byte b ≤ 1
-bit-most true = omega arith
-bit-most false = omega arith
 
 module _ (w : ℕ) (small : w < 2 ^ 64) where
   -- the half of a word is at most 2^63

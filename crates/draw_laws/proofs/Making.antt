@@ -6,6 +6,9 @@ use mathlib.Core.Bool.{Bool, true, false, cond, not, ◌&&◌}
 use mathlib.Core.List.{List, [], ◌∷◌}
 use lib.Dec.{T, eqb, eqb→eq}
 use borrow.Author.Tests.{eqb-true, eq-eqb, ne_eqb, not-true, not-false}
+use Rattle.std.specs.Prelude.{Result}
+use Rattle.distr.specs.declared.refusal.Refusal.{Refusal}
+use Rattle.distr.specs.Refusals.{Makes as Prepares}
 use Rattle.distr.specs.Distribution.{Distr}
 use Rattle.distr.specs.Draw.{Outcome, judged}
 use Rattle.distr.specs.Making.{making_number, refuse, largest}
@@ -177,6 +180,11 @@ module _ {D M S R : Type 0} (k : Makes D M S R) where
       -- what the sampler that is made draws by: its method passes, and is the one prepared
       pub call_made : k.number m ≡ 0 → (good (k.sampler m) ≡ true) × (k.method_of (k.sampler m) ≡ k.prepared d)
       call_made z = (T_true (good (k.sampler m)) (good-made z), ap k.method_of (sampler_made z) ∙ k.method_of_lem d (k.prepared d))
+
+      -- so what its test prepares is what making comes to: the number of making, or the method prepared for the distribution
+      pub call_prepares : k.number m ≡ 0 → (r : Result M Refusal) → Prepares (refuse (not (good (k.sampler m))) never_made) (k.method_of (k.sampler m)) r
+          → Prepares (making_number (k.kind d)) (k.prepared d) r
+      call_prepares z r p = let made = call_made z in rw (← call_number, z) (rw (made.0, made.1) at p)
 
     pub given-good : (s : S) → making d ≡ k.made 0 s → T (good s)
     given-good s h = subst (λ (t : S). T (good t)) (k.sampler_of_lem 0 s) (good-made (k.made 0 s) (sym h) (k.number_of 0 s))

@@ -1,5 +1,6 @@
 -- What is wrong with layer tables, as a function hands it back.
 use Rattle.std.specs.Prelude.{ℕ, cond, ltb, Option, Some, None, Result, Ok, Err}
+use Rattle.distr.specs.declared.refusal.Refusal.{Refusal}
 use Rattle.distr.specs.Refusals.{number as refusal_number}
 use Rattle.distr.specs.Layered.{Layers}
 use Rattle.distr.specs.Numbers.{layer_number, layer_index}
@@ -14,10 +15,14 @@ pub record Fault : Type 0 where
 abbrev pub layer_fault : ℕ → Layers → Fault
 layer_fault M t = record { number = layer_number M t; index = layer_index M t (layer_number M t) }
 
--- What a function says of the tables: 0 and 0 where nothing is wrong.
-abbrev pub told : {A : Type 0} → Result A LayerFault → Fault
-told (Ok a) = record { number = 0; index = 0 }
-told (Err fault) = record { number = refusal_number fault.refusal; index = fault.index }
+-- What a function says of the tables, where its reasons have these numbers: 0 and 0 where nothing is wrong.
+abbrev pub told_by : {A R : Type 0} → (R → ℕ) → Result A (LayerFault R) → Fault
+told_by by (Ok a) = record { number = 0; index = 0 }
+told_by by (Err fault) = record { number = by fault.refusal; index = fault.index }
+
+-- What it says where its reasons are refusals.
+abbrev pub told : {A : Type 0} → Result A (LayerFault Refusal) → Fault
+told checked = told_by refusal_number checked
 
 -- A search's first wrong index of n entries, which is n where none is wrong, as a function hands it back.
 abbrev pub wrong_at : ℕ → ℕ → Option ℕ

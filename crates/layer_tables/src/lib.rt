@@ -5,7 +5,7 @@
 ghost use Rattle.std.specs.Prelude.{cond, ◌≡◌, eqb};
 ghost use Rattle.distr.specs.Layered.{all_finite, falls, all_in_unit, height_list, curve_list, layer_tables};
 ghost use Rattle.distr.specs.Refusals.{number, number_of};
-ghost use Rattle.layer_tables.specs.Fault.{layer_fault, told};
+ghost use Rattle.layer_tables.specs.Fault.{layer_fault, told, told_by};
 ghost use Rattle.layer_tables.specs.Lent.{lent_tables};
 
 use distr::refusal::{Reason, Refusal};
@@ -14,10 +14,10 @@ use gaussian_core::rising::rising_ok;
 
 mod first_wrong;
 
-// What is wrong with layer tables: why they are refused, and the first wrong index where the refusal names a list.
+// What is wrong with layer tables: why they are refused, by a refusal or by any other reason, and the first wrong index where the reason names a list.
 #[derive(Clone, Copy, Debug, PartialEq, Eq)]
-pub struct LayerFault {
-    pub refusal: Refusal,
+pub struct LayerFault<R = Refusal> {
+    pub refusal: R,
     pub index: usize,
 }
 
@@ -163,15 +163,15 @@ pub fn refusal_of(checked: Result<(), LayerFault>) -> Result<(), Refusal>
     }
 }
 
-// The index that goes with a draw's refusal: the fault's where the tables are what refuses the draw, else 0.
-pub fn index_with<R: Reason>(why: R, checked: Result<(), LayerFault>) -> usize
-    ensures { result ≡ cond (eqb (R.refusing why) (told checked).number) (told checked).index 0 }
+// The index that goes with a draw's refusal: the fault's where the tables are what refuses the draw, else 0. Either may be any reason.
+pub fn index_with<R: Reason, S: Reason>(why: R, checked: Result<(), LayerFault<S>>) -> usize
+    ensures { result ≡ cond (eqb (R.refusing why) (told_by S.refusing checked).number) (told_by S.refusing checked).index 0 }
 {
     let fault = match checked {
         Ok(()) => return 0,
         Err(fault) => fault,
     };
-    if why.refusing() != fault.refusal.number() {
+    if why.refusing() != fault.refusal.refusing() {
         return 0;
     }
     fault.index

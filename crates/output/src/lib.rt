@@ -33,7 +33,7 @@ pub trait Output: Copy {
     // A magnitude with its sign, as the output holds it.
     ghost held_sign: { Self.Encoding → Bool → ℕ → Self };
 
-    // A count below 2^63, so that both its signs fit 64 bits; of a larger one, what is above the largest multiple of 2^63 in it.
+    // A count below 2^63, so that both its signs fit 64 bits; of a larger one, its remainder by 2^63.
     fn natural(value: u64) -> Self
         ensures { result ≡ natural (value % 2 ^ 63) };
 

@@ -27,7 +27,7 @@ use Rattle.draw_laws.proofs.Sampled.{sampled-drawn, signed-sampled, signed_unmad
 use Rattle.methods.specs.declared.SamplingMethod.{SamplingMethod}
 use Rattle.method_draws.specs.Drawing.{prepared_method, method_draw, method_skips}
 use Rattle.method_draws.proofs.Drawing.{prepared-draw, prepared-skips}
-use Rattle.prepared_draws.specs.Drawing.{prepared_draw, prepared_skips, encoded_by, crt_by, crt_skips_by}
+use Rattle.prepared_draws.specs.Drawing.{prepared_draw, prepared_draw_by, prepared_skips, encoded_by, crt_by, crt_skips_by}
 use Rattle.prepared_draws.proofs.Families.{crt_of}
 use Rattle.prepared_draws.proofs.Residues.{encoded_of}
 use Rattle.prepared_draws.proofs.Skips.{crt_skips_of}
@@ -41,7 +41,7 @@ module _ {A : Type 0} (place : ℕ) (out : List A) (draw : SamplingMethod → Ou
   pub answered_as : (p : Result SamplingMethod Refusal) (answer : Outcome A) (skips : SamplingMethod → Skipped) (skipped : Skipped)
       → prepared_draw p place out draw ≡ answer → ((m : SamplingMethod) → p ≡ Ok m → skips m ≡ skipped)
       → {r : Answer} {after : List A} → Answered r after (prepared_draw p place out draw) (prepared_skips p skips) → Answered r after answer skipped
-  unfolding prepared_draw prepared_skips
+  unfolding prepared_draw_by prepared_skips
   answered_as (Ok m) answer skips skipped same counted {r} said = (said.0 ∙ same, rw (counted m refl) at said.1)
   answered_as (Err why) answer skips skipped same counted {r} said =
       let numbered : r.number ≡ number why = ap (λ (x : Outcome A). x.number) said.0 in
@@ -58,7 +58,7 @@ signed_of tables words place out d z =
 pub once_draw : {A : Type 0} (d : Distr) (place : ℕ) (out : List A) (draw : SamplingMethod → Outcome A) (answer : Outcome A) (p : Result SamplingMethod Refusal)
     → Prepares (making_number d) (prepared_method d) p → (making_number d ≡ 0 → draw (prepared_method d) ≡ answer)
     → prepared_draw p place out draw ≡ at_once d place out answer
-unfolding judged prepared_draw
+unfolding judged prepared_draw_by
 once_draw {A} d place out draw answer (Ok m) e h = rw (← e.0) (ap draw e.1 ∙ h (sym e.0))
 once_draw {A} d place out draw answer (Err why) e h = rw (← e.0, refuses-eqb why)
 
@@ -116,7 +116,7 @@ module _ {D S R : Type 0} (k : Makes D SamplingMethod S R) (prepares : (d : D) �
     drawn_by : {A : Type 0} (out : List A) (draw : SamplingMethod → Outcome A) (q : Result SamplingMethod Refusal)
         → Prepares (refuse (not (good k s)) never_made) (k.method_of s) q
         → prepared_draw q place out draw ≡ judged (refuse (not (good k s)) never_made) place out (draw (k.method_of s))
-    unfolding judged prepared_draw
+    unfolding judged prepared_draw_by
     drawn_by out draw (Ok m) t = rw (← t.0) (ap draw t.1)
     drawn_by out draw (Err why) t = rw (← t.0, refuses-eqb why)
 

@@ -6,13 +6,13 @@ ghost use Rattle.distr.specs.Refusals.{number_of};
 ghost use Rattle.method_draws.specs.Drawing.{method_skips};
 ghost use Rattle.methods.specs.declared.SamplingMethod.{SamplingMethod};
 ghost use Rattle.signed_discrete_gaussian.specs.Lent.{lent};
-ghost use Rattle.prepared_draws.specs.Drawing.{prepared_draw, prepared_skips, crt_number, row_draw, crt_by, crt_skips_by};
+ghost use Rattle.prepared_draws.specs.Drawing.{prepared_draw_by, prepared_skips, crt_number, row_draw, crt_by, crt_skips_by};
 
 use cdt::sample_cdt_to;
 use centered_binomial::draw::sample_binomial_to as sample_binomial;
 use distr::answer::{Answer, refused};
 use distr::limits::CDT_MAX_MAGNITUDE;
-use distr::refusal::Refusal;
+use distr::refusal::{Reason, Refusal};
 use methods::key::is_served;
 use methods::{SamplingMethod, maximum_magnitude};
 use output::Residues;
@@ -71,9 +71,9 @@ fn draw_row(
 
 // Draws each coefficient once and writes its residue for every modulus, one row after the other. A refused table leaves the output as it
 // was. An empty output is drawn the same way, which reads nothing: its tables are judged.
-pub fn sample_crt_to(
+pub fn sample_crt_to<R: Reason>(
     output: &mut [u64],
-    prepared: Result<SamplingMethod, Refusal>,
+    prepared: Result<SamplingMethod, R>,
     coefficient_count: usize,
     moduli: &[u64],
     bounds: &[u64],
@@ -83,7 +83,7 @@ pub fn sample_crt_to(
     words: &[u32],
     place: usize,
 ) -> Answer
-    ensures output_after { outcome result output.new ≡ prepared_draw prepared place output.old (λ (m : SamplingMethod). crt_by m
+    ensures output_after { outcome result output.new ≡ prepared_draw_by R.refusing prepared place output.old (λ (m : SamplingMethod). crt_by m
         (lent bounds.now endpoints.now heights.now curve.now)
         coefficient_count moduli.now words.now place output.old) }
     ensures result_value { sums result ≡ reported result.number (prepared_skips prepared (λ (m : SamplingMethod). crt_skips_by m (lent bounds.now endpoints.now heights.now curve.now) coefficient_count (length output.old) (drop place words.now))) }

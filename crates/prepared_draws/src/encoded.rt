@@ -7,20 +7,20 @@ ghost use Rattle.distr.specs.Answers.{sums, reported};
 ghost use Rattle.method_draws.specs.Drawing.{method_skips};
 ghost use Rattle.methods.specs.declared.SamplingMethod.{SamplingMethod};
 ghost use Rattle.signed_discrete_gaussian.specs.Lent.{lent};
-ghost use Rattle.prepared_draws.specs.Drawing.{prepared_draw, prepared_skips, residue_numbers, encoded_by};
+ghost use Rattle.prepared_draws.specs.Drawing.{prepared_draw_by, prepared_skips, residue_numbers, encoded_by};
 
 use distr::answer::{Answer, refused};
-use distr::refusal::Refusal;
+use distr::refusal::{Reason, Refusal};
 use method_draws::sample_to_with;
 use methods::key::is_binomial;
 use methods::{SamplingMethod, check_length, check_modulus, maximum_magnitude};
 use numbers::first_refusal;
 use output::Residues;
 
-// A prepared method with the modulus of its residues.
+// A prepared method, or what refuses it, with the modulus of its residues.
 #[derive(Clone, Copy, Debug, PartialEq)]
-pub struct ResidueMethod {
-    pub prepared: Result<SamplingMethod, Refusal>,
+pub struct ResidueMethod<R = Refusal> {
+    pub prepared: Result<SamplingMethod, R>,
     pub modulus: u64,
 }
 
@@ -39,9 +39,9 @@ pub fn check_residues(method: SamplingMethod, length: usize, modulus: u64) -> Re
 
 // Draws residues over the whole output. The modulus is judged after the length and before the tables: 22, 6, 7 or 8, 10, 9, the tables', 23. A centered
 // binomial's draw is a CRT draw of one row, so a modulus of 0 gives 10 there.
-pub fn sample_encoded_to(
+pub fn sample_encoded_to<R: Reason>(
     output: &mut [u64],
-    by: ResidueMethod,
+    by: ResidueMethod<R>,
     bounds: &[u64],
     endpoints: &[u64],
     heights: &[f64],
@@ -49,7 +49,7 @@ pub fn sample_encoded_to(
     words: &[u32],
     place: usize,
 ) -> Answer
-    ensures output_after { outcome result output.new ≡ prepared_draw by.prepared place output.old (λ (m : SamplingMethod). encoded_by m
+    ensures output_after { outcome result output.new ≡ prepared_draw_by R.refusing by.prepared place output.old (λ (m : SamplingMethod). encoded_by m
         (lent bounds.now endpoints.now heights.now curve.now)
         by.modulus words.now place output.old) }
     ensures result_value { sums result ≡ reported result.number (prepared_skips by.prepared (λ (m : SamplingMethod). method_skips m (lent bounds.now endpoints.now heights.now curve.now) (length output.old) (drop place words.now))) }

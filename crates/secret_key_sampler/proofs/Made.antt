@@ -11,7 +11,7 @@ use Rattle.distr.specs.declared.secret_key_distr.SecretKeyDistr.{SecretKeyDistr}
 use Rattle.distr.specs.Distribution.{secret}
 use Rattle.distr.specs.Making.{secret_number, making_number, refuse, largest}
 use Rattle.draw_laws.proofs.Making as Making
-use Rattle.draw_laws.proofs.Making.{Makes, call_number, call_made}
+use Rattle.draw_laws.proofs.Making.{Makes, call_number, call_prepares}
 use Rattle.methods.specs.declared.SamplingMethod.{SamplingMethod}
 use Rattle.methods.specs.Method.{magnitude_of}
 use Rattle.methods.specs.Keys.{method_key, same_key}
@@ -91,4 +91,4 @@ module _ (d : SecretKeyDistr) {m : MadeSecretKeySampler} (h : m ≡ making d) wh
 
   pub made-method_of : m.number ≡ 0 → (r : Result SamplingMethod Refusal) → Prepares (refuse (not (is_made m.sampler)) never_made) m.sampler.method r
       → Prepares (making_number (secret d)) (prepared_method (secret d)) r
-  made-method_of z r p = let made = call_made makes d m h z in rw (← call_number makes d m h, z, prepares d) (rw (made.0, made.1) at p)
+  made-method_of z r p = rw (prepares d) (call_prepares makes d m h z r p)

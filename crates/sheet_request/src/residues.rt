@@ -61,7 +61,7 @@ pub(crate) fn draw_residues(
         let first = first_refusal(words.len(), place, output.len(), why);
         return refused(first, place);
     }
-    let answer = sample_signed_to(output, Ok(method), &[], &[], &[], &[], words, place);
+    let answer = sample_signed_to(output, prepared, &[], &[], &[], &[], words, place);
     if answer.number == 0 {
         encode_all(output, modulus);
     }

@@ -68,11 +68,6 @@ plan_value_lem (General N E) w {q} h e =
     go true = refl
     go false = refl
 
--- what a word from the first end on adds
-pub bit_few : (b : Bool) → bool_byte b < 2
-bit_few true = omega arith
-bit_few false = omega arith
-
 -- what it gives for a word below the first end and for another
 module _ (p : WordPlan) (w : ℕ) where
   pub value-below : w < p.first_end → minus_one ≡ plan_value p w

@@ -1,7 +1,8 @@
 -- `below::one_below`: what the bound leaves has its top bit set where the word is below the end.
 use native.Mathlib.Omega.{arith}
 use borrow.Author.Rules.{rules}
-use Rattle.binary.proofs.Halves.{bit-most, half-fits, half-within, half_tells}
+use Rattle.output.proofs.Naturals.{bit-most}
+use Rattle.binary.proofs.Halves.{half-fits, half-within, half_tells}
 use Rattle.binary.proofs.below.one_below.Statement.{statement}
 use Rattle.binary.proofs.below.one_below.Tie as tie
 

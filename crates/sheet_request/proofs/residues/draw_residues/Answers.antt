@@ -4,12 +4,12 @@ use native.Mathlib.Omega.{arith}
 use borrow.Author.Tests.{ne_eqb}
 use Rattle.distr.proofs.Refusals.{refuses}
 use Rattle.distr.proofs.Skipping.{refusal_reports}
-use Rattle.prepared_draws.specs.Drawing.{prepared_draw, prepared_skips}
+use Rattle.prepared_draws.specs.Drawing.{prepared_draw_by, prepared_skips}
 use Rattle.sheet_request.proofs.Values.{any_values, values_asked, values-drawn}
 use Rattle.sheet_request.proofs.residues.draw_residues.Goals as goal
 
 pub returns-in-Err : goal.returns-in-Err
-unfolding prepared_draw
+unfolding prepared_draw_by
 returns-in-Err c =
     let a = c.args in
     let both = any_values a.modulus a.words.now a.place a.output.now _ a.found c.prepare-prepared.ensures (omega arith)
@@ -17,7 +17,7 @@ returns-in-Err c =
     record { output_after = both.0; result_value = both.1 }
 
 pub returns-in-Err-check_residues : goal.returns-in-Err-check_residues
-unfolding prepared_draw
+unfolding prepared_draw_by
 returns-in-Err-check_residues c =
     let a = c.args in
     let both = any_values a.modulus a.words.now a.place a.output.now _ a.found c.prepare-prepared.ensures (omega arith) (
@@ -28,7 +28,7 @@ returns-in-Err-check_residues c =
     record { output_after = both.0; result_value = both.1 }
 
 pub returns-then-answer-eq0 : goal.returns-then-answer-eq0
-unfolding prepared_draw prepared_skips
+unfolding prepared_draw_by prepared_skips
 returns-then-answer-eq0 c =
     let a = c.args in
     let drawn = c.sample_signed_to-answer.ensures in
@@ -41,7 +41,7 @@ returns-then-answer-eq0 c =
     record { output_after = both.0; result_value = both.1 }
 
 pub returns-else-answer-eq0 : goal.returns-else-answer-eq0
-unfolding prepared_draw prepared_skips
+unfolding prepared_draw_by prepared_skips
 returns-else-answer-eq0 c =
     let a = c.args in
     let drawn = c.sample_signed_to-answer.ensures in

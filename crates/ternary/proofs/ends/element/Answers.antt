@@ -1,7 +1,7 @@
 use Rattle.std.proofs.Common.{sym, ap, ◌∙◌, arith}
 use lib.Dec.{ltb}
-use Rattle.output.proofs.Naturals.{natural_small}
-use Rattle.ternary.proofs.Plans.{bit_few, value-below, value-above}
+use Rattle.output.proofs.Naturals.{natural_small, bit-most}
+use Rattle.ternary.proofs.Plans.{value-below, value-above}
 use Rattle.ternary.proofs.ends.element.Goals as goal
 
 pub returns-then-word-plan : goal.returns-then-word-plan
@@ -10,5 +10,5 @@ returns-then-word-plan g c =
 
 pub returns-else-word-plan : goal.returns-else-word-plan
 returns-else-word-plan g c =
-    c.natural.ensures ∙ ap g.T.Output.natural (natural_small _ (omega (arith, bit_few (ltb c.wide_word-word.result c.args.plan.second_end)))) ∙ sym (g.met.T.Output.natural_held c.args.encoding _)
+    c.natural.ensures ∙ ap g.T.Output.natural (natural_small _ (omega (arith, bit-most (ltb c.wide_word-word.result c.args.plan.second_end)))) ∙ sym (g.met.T.Output.natural_held c.args.encoding _)
     ∙ rw (← c.wide_word-word.ensures) (ap (g.T.Output.held_one c.args.encoding) (value-above c.args.plan _ c.if-word-plan.false))
