@@ -38,6 +38,6 @@ abbrev pub number_of : {A : Type 0} → Result A Refusal → ℕ
 number_of (Ok a) = 0
 number_of (Err refusal) = number refusal
 
--- Making comes to one of the numbers of 01 or to 0, and where it is 0 it hands back what is made: here, to this number and this value.
+-- What making hands back: a result of this number and, where that is 0, one that holds what is made.
 abbrev pub Makes : {A : Type 0} → ℕ → A → Result A Refusal → Type 0
 Makes by made result = (number_of result ≡ by) × IfOk result (λ a. a ≡ made)

@@ -163,7 +163,7 @@ pub fn refusal_of(checked: Result<(), LayerFault>) -> Result<(), Refusal>
     }
 }
 
-// The index that goes with a draw's refusal: the fault's where the tables are what refuses the draw, else 0. Either may be any reason.
+// The index that goes with what refuses a draw: the fault's where the tables are what refuses it, else 0. Both may be told by any number.
 pub fn index_with<R: Reason, S: Reason>(why: R, checked: Result<(), LayerFault<S>>) -> usize
     ensures { result ≡ cond (eqb (R.refusing why) (told_by S.refusing checked).number) (told_by S.refusing checked).index 0 }
 {

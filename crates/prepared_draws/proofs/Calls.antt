@@ -37,15 +37,23 @@ abbrev pub Answered : {A : Type 0} → Answer → List A → Outcome A → Skipp
 Answered r after drawn skipped = (outcome r after ≡ drawn) × (sums r ≡ reported r.number skipped)
 
 module _ {A : Type 0} (place : ℕ) (out : List A) (draw : SamplingMethod → Outcome A) where
-  -- a call by what was prepared answers and reports what is drawn and skipped by another name, if that is the same where a method is drawn by
+  -- a call by what was prepared answers and reports what is drawn and skipped by another name, if that is the same where a method is drawn by, and where
+  -- what refuses it has the number 0
+  pub answered_by : {R : Type 0} (by : R → ℕ) (p : Result SamplingMethod R) (answer : Outcome A) (skips : SamplingMethod → Skipped) (skipped : Skipped)
+      → prepared_draw_by by p place out draw ≡ answer → ((m : SamplingMethod) → p ≡ Ok m → skips m ≡ skipped)
+      → ((why : R) → p ≡ Err why → by why ≡ 0 → nothing ≡ skipped)
+      → {r : Answer} {after : List A} → Answered r after (prepared_draw_by by p place out draw) (prepared_skips p skips) → Answered r after answer skipped
+  unfolding prepared_draw_by prepared_skips
+  answered_by by (Ok m) answer skips skipped same counted none {r} said = (said.0 ∙ same, rw (counted m refl) at said.1)
+  answered_by by (Err why) answer skips skipped same counted none {r} said =
+      let numbered : r.number ≡ by why = ap (λ (x : Outcome A). x.number) said.0 in
+      (said.0 ∙ same, reports_same r nothing skipped (λ z. none why refl (sym numbered ∙ z)) said.1)
+
+  -- no refusal has that number
   pub answered_as : (p : Result SamplingMethod Refusal) (answer : Outcome A) (skips : SamplingMethod → Skipped) (skipped : Skipped)
       → prepared_draw p place out draw ≡ answer → ((m : SamplingMethod) → p ≡ Ok m → skips m ≡ skipped)
       → {r : Answer} {after : List A} → Answered r after (prepared_draw p place out draw) (prepared_skips p skips) → Answered r after answer skipped
-  unfolding prepared_draw_by prepared_skips
-  answered_as (Ok m) answer skips skipped same counted {r} said = (said.0 ∙ same, rw (counted m refl) at said.1)
-  answered_as (Err why) answer skips skipped same counted {r} said =
-      let numbered : r.number ≡ number why = ap (λ (x : Outcome A). x.number) said.0 in
-      (said.0 ∙ same, reports_same r nothing skipped (λ z. absurd (refuses why (sym numbered ∙ z))) said.1)
+  answered_as p answer skips skipped same counted = answered_by number p answer skips skipped same counted (λ why is z. absurd (refuses why z))
 
 -- What a prepared method draws signed is the signed draw of its distribution.
 pub signed_of : (tables : Tables) (words : List ℕ) (place : ℕ) (out : List ℤ) (d : Distr) → making_number d ≡ 0

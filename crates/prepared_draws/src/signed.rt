@@ -13,8 +13,7 @@ use method_draws::sample_to_with;
 use methods::SamplingMethod;
 use output::Signed;
 
-// Draws signed coefficients over the whole output. The family is chosen once, before any coefficient is drawn. What was not prepared is refused by its
-// number, a refusal's or any other.
+// Draws signed coefficients over the whole output. The family is chosen once, before any coefficient is drawn.
 pub fn sample_signed_to<R: Reason>(
     output: &mut [i64],
     prepared: Result<SamplingMethod, R>,

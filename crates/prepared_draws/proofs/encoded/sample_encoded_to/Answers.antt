@@ -1,4 +1,5 @@
 use Rattle.std.proofs.Common.{refl, length, sym}
+use borrow.Author.Rules.{rules}
 use Rattle.distr.proofs.Refusals.{refuses}
 use Rattle.distr.proofs.Skipping.{reported-nothing, refusal_reports}
 use Rattle.prepared_draws.specs.Drawing.{prepared_draw_by, prepared_skips}
@@ -7,7 +8,7 @@ use Rattle.prepared_draws.proofs.encoded.sample_encoded_to.Goals as goal
 
 pub returns-in-Err : goal.returns-in-Err
 unfolding prepared_draw_by prepared_skips
-returns-in-Err g c = record { output_after = rw (c.in-Err.is, c.refused.ensures); result_value = rw (c.in-Err.is, c.refused.ensures) (reported-nothing _) }
+returns-in-Err g c = record { output_after = rw c.in-Err.is (search rules); result_value = rw (c.in-Err.is, c.refused.ensures) (reported-nothing _) }
 
 pub returns-in-Err-check_residues : goal.returns-in-Err-check_residues
 unfolding prepared_draw_by
