@@ -15,12 +15,12 @@ pub record Fault : Type 0 where
 abbrev pub layer_fault : ℕ → Layers → Fault
 layer_fault M t = record { number = layer_number M t; index = layer_index M t (layer_number M t) }
 
--- What a function says of the tables, where its reasons have these numbers: 0 and 0 where nothing is wrong.
+-- What a function says of the tables: 0 and 0 where nothing is wrong, else the index of the fault and the number that `by` gives its reason.
 abbrev pub told_by : {A R : Type 0} → (R → ℕ) → Result A (LayerFault R) → Fault
 told_by by (Ok a) = record { number = 0; index = 0 }
 told_by by (Err fault) = record { number = by fault.refusal; index = fault.index }
 
--- What it says where its reasons are refusals.
+-- The same where the reason is a refusal, by its number.
 abbrev pub told : {A : Type 0} → Result A (LayerFault Refusal) → Fault
 told checked = told_by refusal_number checked
 

@@ -15,12 +15,12 @@ use Rattle.methods.specs.Keys.{is_binomial, is_served}
 use Rattle.method_draws.specs.Drawing.{method_draw, method_skips}
 use Rattle.crt.specs.Rows.{last_row, finished}
 
--- What was prepared draws, or the number of what refuses it, any reason, is the draw's, before anything else is judged.
+-- What was prepared draws. Where there is a reason in its place, the number that `by` gives the reason is the draw's, before anything else is judged.
 unfoldable pub prepared_draw_by : {A R : Type 0} → (R → ℕ) → Result SamplingMethod R → ℕ → List A → (SamplingMethod → Outcome A) → Outcome A
 prepared_draw_by by (Ok method) place out draw = draw method
 prepared_draw_by by (Err why) place out draw = record { number = by why; place = place; index = 0; output = out }
 
--- The same where a refusal refuses it.
+-- The same where the reason is a refusal, by its number.
 abbrev pub prepared_draw : {A : Type 0} → Result SamplingMethod Refusal → ℕ → List A → (SamplingMethod → Outcome A) → Outcome A
 prepared_draw prepared place out draw = prepared_draw_by number prepared place out draw
 
